@@ -1,0 +1,5 @@
+pub mod Octets
+pub mod Packet
+pub mod Calls
+pub mod Damage
+pub mod Cases
