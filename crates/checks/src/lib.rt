@@ -4,10 +4,10 @@ mod crc;
 mod kind;
 
 pub use bits::bit_at;
-pub use crc::Crc16;
-pub use crc::Crc16Check;
 pub use crc::Crc8;
 pub use crc::Crc8Check;
+pub use crc::Crc16;
+pub use crc::Crc16Check;
 pub use kind::ByteWord;
 pub use kind::Check;
 pub use kind::PairWord;

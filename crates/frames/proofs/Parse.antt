@@ -1,4 +1,4 @@
--- What is read is exactly what was packet-of.
+-- What is read is exactly what was packed.
 use mathlib.Core.Path.{_≡_, refl, sym, ap, ap₂, _∙_, subst}
 use mathlib.Core.Bool.{Bool, true, false, cond, _&&_}
 use mathlib.Core.List.{List, [], _∷_, _++_, reverse}
@@ -48,7 +48,7 @@ pub none-from : {X : Type 0} (b : Bool) (x : X) → cond b (Some x) None ≡ Non
 none-from true x e = cc
 none-from false x e = refl
 
--- ---- the fields-read of what was packet-of
+-- ---- the fields of a packed packet
 
 regroup :
     (s : Packet) (k : List Bool)

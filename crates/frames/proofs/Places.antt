@@ -71,7 +71,7 @@ octet-more d now next at i x xs h l r e f =
     let n : 8 * i + 8 ≡ 8 * (i + 1) = omega arith in
     cc
 
--- a write check-right after what was written from the start on
+-- a write right after what was written from the start on
 pub then-put : (d s t now next : List Bool) (n m : ℕ) → n ≡ length s → m ≡ length t
     → now ≡ paste d 0 s n → next ≡ paste now n t m → next ≡ paste d 0 (s ++ t) (n + m)
 then-put d s t now next n m e f g h =

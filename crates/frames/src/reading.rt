@@ -79,10 +79,7 @@ fn fields_at(frame: &[u8], wide: AddressWidth, len: usize) -> Fields
         },
         pid: pid_of(get_bits(frame, mid + 6, 2)),
         no_ack: bit_at(frame, mid + 8),
-        payload: Payload {
-            held: payload,
-            len,
-        },
+        payload: Payload { held: payload, len },
     }
 }
 
@@ -96,7 +93,11 @@ fn is_right<C: Check>(frame: &[u8], width: usize, len: usize) -> bool
 }
 
 // What the first bits of a frame say to a reader of addresses of that width: nothing unless bit count and check are right.
-pub fn read<C: Check>(frame: &[u8], count: usize, wide: AddressWidth) -> Result<Option<Heard>, Refusal>
+pub fn read<C: Check>(
+    frame: &[u8],
+    count: usize,
+    wide: AddressWidth,
+) -> Result<Option<Heard>, Refusal>
     ensures value { λ r. ⌜ Reads (C·Check .width) meaning (width-of wide) (now (frame .entry)) count r ⌝ }
     ensures exact { λ r. ⌜ Exact (C·Check .width) meaning (width-of wide) (now (frame .entry)) count r ⌝ }
 {

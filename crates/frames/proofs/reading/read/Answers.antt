@@ -22,8 +22,8 @@ returns-in-rest g c =
     let n = c .args .count in
     let holds : n ≤ 8 * length (c .args .frame .now) = leb-true n (8 * length (c .args .frame .now)) (sym (c .if-not-holds .ensures tt)) in
     let le : n ≤ length b = omega (arith, length-bits (c .args .frame .now)) in
-        let e = heard-none b n le f w (g .C·Check·met .below) (c .bytes-width .result) (c .size-size .result) (c .size-size .ensures) (c .in-rest .ensures tt .value)
-        ∙ ap (λ (v : ℕ). reading w f v (take n b)) (c .bytes-width .ensures .value) in
+    let e = heard-none b n le f w (g .C·Check·met .below) (c .bytes-width .result) (c .size-size .result) (c .size-size .ensures) (c .in-rest .ensures tt .value)
+    ∙ ap (λ (v : ℕ). reading w f v (take n b)) (c .bytes-width .ensures .value) in
     record { value = (holds, e, tt); exact = exactly f w (g .C·Check·met .below) (width-of (c .args .wide)) (take n b) None e }
 
 pub returns-then-is-right : need.returns-then-is-right
@@ -34,15 +34,15 @@ returns-then-is-right g c =
     let n = c .args .count in
     let holds : n ≤ 8 * length (c .args .frame .now) = leb-true n (8 * length (c .args .frame .now)) (sym (c .if-not-holds .ensures tt)) in
     let le : n ≤ length b = omega (arith, length-bits (c .args .frame .now)) in
-        let s = packet-of (c .fields-at .result) in
+    let s = packet-of (c .fields-at .result) in
     let is = c .fields-at .ensures ∙ ap (λ (v : ℕ). fields-at v (c .in-Some .len) b) (sym (c .bytes-width .ensures .value)) in
     let e = heard-some b n le f w (g .C·Check·met .below) (c .bytes-width .result) (c .size-size .result) (c .size-size .ensures) (c .in-Some .len)
-        (c .is-right .result) (c .in-Some .ensures tt .value) (c .in-Some .ensures tt .places .1) (c .is-right .ensures)
-        (c .if-is-right .taken) s is
-        ∙ ap (λ (v : ℕ). reading w f v (take n b)) (c .bytes-width .ensures .value) in
+    (c .is-right .result) (c .in-Some .ensures tt .value) (c .in-Some .ensures tt .places .1) (c .is-right .ensures)
+    (c .if-is-right .taken) s is
+    ∙ ap (λ (v : ℕ). reading w f v (take n b)) (c .bytes-width .ensures .value) in
     let k = heard-check b n le f w (g .C·Check·met .below) (c .bytes-width .result) (c .size-size .result) (c .size-size .ensures) (c .in-Some .len)
-        (c .is-right .result) (c .in-Some .ensures tt .value) (c .in-Some .ensures tt .places .1) (c .is-right .ensures)
-        (c .if-is-right .taken) s is (c .get-bits-check .result) (c .get-bits-check .ensures .value) in
+    (c .is-right .result) (c .in-Some .ensures tt .value) (c .in-Some .ensures tt .places .1) (c .is-right .ensures)
+    (c .if-is-right .taken) s is (c .get-bits-check .result) (c .get-bits-check .ensures .value) in
     record { value = (holds, e, k); exact = exactly f w (g .C·Check·met .below) (width-of (c .args .wide)) (take n b) (Some s) e }
 
 pub returns-else-is-right : need.returns-else-is-right
@@ -53,8 +53,8 @@ returns-else-is-right g c =
     let n = c .args .count in
     let holds : n ≤ 8 * length (c .args .frame .now) = leb-true n (8 * length (c .args .frame .now)) (sym (c .if-not-holds .ensures tt)) in
     let le : n ≤ length b = omega (arith, length-bits (c .args .frame .now)) in
-        let e = heard-wrong b n le f w (g .C·Check·met .below) (c .bytes-width .result) (c .size-size .result) (c .size-size .ensures) (c .in-Some .len)
-        (c .is-right .result) (c .in-Some .ensures tt .value) (c .in-Some .ensures tt .places .1) (c .is-right .ensures)
-        (c .if-is-right .left)
-        ∙ ap (λ (v : ℕ). reading w f v (take n b)) (c .bytes-width .ensures .value) in
+    let e = heard-wrong b n le f w (g .C·Check·met .below) (c .bytes-width .result) (c .size-size .result) (c .size-size .ensures) (c .in-Some .len)
+    (c .is-right .result) (c .in-Some .ensures tt .value) (c .in-Some .ensures tt .places .1) (c .is-right .ensures)
+    (c .if-is-right .left)
+    ∙ ap (λ (v : ℕ). reading w f v (take n b)) (c .bytes-width .ensures .value) in
     record { value = (holds, e, tt); exact = exactly f w (g .C·Check·met .below) (width-of (c .args .wide)) (take n b) None e }

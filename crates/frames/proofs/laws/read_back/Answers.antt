@@ -1,6 +1,6 @@
 use Rattle.frames.specs.Calls.{packet-of, width-of}
 use Rattle.frames.proofs.Back.{echoes}
-use Rattle.frames.proofs.laws.echo.Needs as need
+use Rattle.frames.proofs.laws.read_back.Needs as need
 
 pub returns-in-Ok : need.returns-in-Ok
 returns-in-Ok g c =
