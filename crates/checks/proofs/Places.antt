@@ -4,7 +4,9 @@ use mathlib.Core.Path.{_≡_, refl, sym, _∙_, ap, subst}
 use mathlib.Core.List.{List, [], _∷_, _++_}
 use mathlib.Core.Bool.{Bool, true, false}
 use mathlib.Core.Logic.{_⊎_, inl, inr}
-use Prim.Native.Nat.{ℕ, zero, suc, _+_, _-_, _*_, _/_, _%_, _≤_, _<_}
+use Prim.Native.Nat.{ℕ, zero, suc, _+_, _-_, _*_, _/_, _%_, _^_, _≤_, _<_}
+use native.Mathlib.Nat.{zero-div}
+use lib.Dec.{eqb}
 use Rattle.std.proofs.shelf.Tests.{cases-lt}
 use native.Mathlib.Omega.{arith}
 use lib.ListN.{length, getD, take, length-append}
@@ -40,10 +42,11 @@ length-bits (b ∷ bs) =
     let n : length (bits bs) ≡ 8 * length bs = length-bits bs in
     length-append (word 8 b) (bits bs) ∙ omega (arith, n, length-word 8 b)
 
-pub bits-at : (bs : List ℕ) (i : ℕ) → i < 8 * length bs → getD (bits bs) i false ≡ bit (getD bs (i / 8) 0) (7 - i % 8)
+-- also past the end, where both sides read a 0
+pub bits-at : (bs : List ℕ) (i : ℕ) → getD (bits bs) i false ≡ bit (getD bs (i / 8) 0) (7 - i % 8)
 unfolding bits
-bits-at [] i h = absurd (omega (arith, h))
-bits-at (b ∷ bs) i h =
+bits-at [] i = sym (ap (λ (n : ℕ). eqb (n % 2) 1) (zero-div (2 ^ (7 - i % 8))))
+bits-at (b ∷ bs) i =
     elim (cases-lt i 8) [
       | inl l ↦
           let q : i / 8 ≡ 0 = omega arith in
@@ -55,8 +58,7 @@ bits-at (b ∷ bs) i h =
           let p : i ≡ 8 + j = omega arith in
           let q : suc (j / 8) ≡ i / 8 = omega arith in
           let m : j % 8 ≡ i % 8 = omega arith in
-          let k : j < 8 * length bs = omega (arith, h) in
-          ap (λ (n : ℕ). getD (word 8 b ++ bits bs) n false) p ∙ word-past 8 b (bits bs) j ∙ bits-at bs j k
+          ap (λ (n : ℕ). getD (word 8 b ++ bits bs) n false) p ∙ word-past 8 b (bits bs) j ∙ bits-at bs j
           ∙ ap (λ (n : ℕ). bit (getD bs (j / 8) 0) (7 - n)) m
           ∙ ap (λ (n : ℕ). bit (getD (b ∷ bs) n 0) (7 - i % 8)) q
     ]

@@ -7,7 +7,7 @@ use Rattle.checks.proofs.Places.{bits-at, length-bits}
 use Rattle.checks.proofs.bits.bit_at.Needs as need
 
 pub returns-then-i-bytes : need.returns-then-i-bytes
-returns-then-i-bytes c = c .bit-of .ensures ∙ sym (bits-at (c .args .bytes .now) (c .args .i) (omega arith))
+returns-then-i-bytes c = c .bit-of .ensures ∙ sym (bits-at (c .args .bytes .now) (c .args .i))
 
 pub returns-else-i-bytes : need.returns-else-i-bytes
 returns-else-i-bytes c =
