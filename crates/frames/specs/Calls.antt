@@ -1,9 +1,10 @@
 -- The calls' contracts.
 use mathlib.Core.Path.{_≡_}
-use mathlib.Core.List.{List}
+use mathlib.Core.List.{List, _++_}
 use mathlib.Core.Bool.{Bool}
-use Prim.Native.Nat.{ℕ, _*_, _≤_, _<_}
-use lib.ListN.{length, take, drop}
+use Prim.Native.Nat.{ℕ, _*_, min, _≤_, _<_}
+use native.Mathlib.Nat.{min-le-right}
+use lib.ListN.{length, take, drop, replicate}
 use Rattle.std.specs.declared.option.Option.{Option}
 use Rattle.std.specs.declared.option.Option.the-variants.{Some, None}
 use Rattle.std.specs.declared.result.Result.{Result}
@@ -40,6 +41,10 @@ address-bytes a = take (width-of (a .wide)) (a .held)
 
 abbrev pub payload-bytes : Payload → List ℕ
 payload-bytes p = take (p .len) (p .held)
+
+-- the payload of some bytes, 0 behind them; of more than 32 it keeps the first 32
+abbrev pub payload-of : List ℕ → Payload
+payload-of bs = record { held = bs ++ drop (length bs) (replicate 32 0); len = min (length bs) 32; fits = min-le-right (length bs) 32 }
 
 abbrev pub packet-of : Fields → Packet
 packet-of f = record {

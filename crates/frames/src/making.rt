@@ -1,12 +1,14 @@
 // Fields from bytes and numbers, and back.
 ghost use mathlib.Core.Path.{_≡_};
-ghost use mathlib.Core.List.{[]};
+ghost use mathlib.Core.Bool.{cond};
 ghost use Prim.Native.Nat.{ℕ, _≤_, _<_};
+ghost use lib.Dec.{leb};
 ghost use lib.ListN.{length};
+ghost use Rattle.std.specs.declared.option.Option.the-variants.{Some, None};
 ghost use Rattle.std.specs.Options.{Cases};
 ghost use Rattle.std.specs.shelf.Text.{sameBytes};
 ghost use Rattle.frames.specs.Packet.{Valid};
-ghost use Rattle.frames.specs.Calls.{width-of, pid-number, packet-of, address-bytes, payload-bytes, refusal-number};
+ghost use Rattle.frames.specs.Calls.{width-of, pid-number, packet-of, address-bytes, payload-bytes, payload-of, refusal-number};
 use crate::bits::known_bytes;
 use crate::fields::Address;
 use crate::fields::AddressWidth;
@@ -106,7 +108,8 @@ impl Pid {
 impl Payload {
     // A payload of these bytes; there are at most 32.
     pub fn new(given: &[u8]) -> Option<Payload>
-        ensures { λ r. ⌜ Cases r (32 < length (now (given .entry))) (λ p. payload-bytes p ≡ now (given .entry)) ⌝ }
+        ensures bytes { λ r. ⌜ Cases r (32 < length (now (given .entry))) (λ p. payload-bytes p ≡ now (given .entry)) ⌝ }
+        ensures whole { λ r. ⌜ r ≡ cond (leb (length (now (given .entry))) 32) (Some (payload-of (now (given .entry)))) None ⌝ }
     {
         let len = given.len();
         if len > 32 {
