@@ -1,0 +1,4 @@
+pub mod Decode
+pub mod Refusals
+pub mod Reply
+pub mod Status
