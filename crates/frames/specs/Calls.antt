@@ -35,6 +35,12 @@ pid-number pid.One = 1
 pid-number pid.Two = 2
 pid-number pid.Three = 3
 
+abbrev pub next-pid : Pid → Pid
+next-pid pid.Zero = pid.One
+next-pid pid.One = pid.Two
+next-pid pid.Two = pid.Three
+next-pid pid.Three = pid.Zero
+
 -- low byte first
 abbrev pub address-bytes : Address → List ℕ
 address-bytes a = take (width-of (a .wide)) (a .held)

@@ -1,14 +1,15 @@
 // Fields from bytes and numbers, and back.
 ghost use mathlib.Core.Path.{_≡_};
 ghost use mathlib.Core.Bool.{cond};
-ghost use Prim.Native.Nat.{ℕ, _≤_, _<_};
+ghost use mathlib.Core.List.{[]};
+ghost use Prim.Native.Nat.{ℕ, _+_, _%_, _≤_, _<_};
 ghost use lib.Dec.{leb};
-ghost use lib.ListN.{length};
+ghost use lib.ListN.{length, take};
 ghost use Rattle.std.specs.declared.option.Option.the-variants.{Some, None};
 ghost use Rattle.std.specs.Options.{Cases};
 ghost use Rattle.std.specs.shelf.Text.{sameBytes};
 ghost use Rattle.frames.specs.Packet.{Valid};
-ghost use Rattle.frames.specs.Calls.{width-of, pid-number, packet-of, address-bytes, payload-bytes, payload-of, refusal-number};
+ghost use Rattle.frames.specs.Calls.{width-of, pid-number, next-pid, packet-of, address-bytes, payload-bytes, payload-of, refusal-number};
 use crate::bits::known_bytes;
 use crate::fields::Address;
 use crate::fields::AddressWidth;
@@ -54,6 +55,13 @@ impl Address {
         let mut held = [0; 5];
         held[0..wide.bytes()].copy_from_slice(given);
         Some(Address { held, wide })
+    }
+
+    // The address of the low bytes of a register, as many as the width says.
+    pub fn of_low_bytes(held: [u8; 5], wide: AddressWidth) -> Address
+        ensures { λ r. ⌜ address-bytes r ≡ take (width-of wide) held ⌝ }
+    {
+        Address { held, wide }
     }
 
     // Its bytes, low byte first.
@@ -103,6 +111,19 @@ impl Pid {
             Pid::Three => 3,
         }
     }
+
+    // The packet identity of the next payload: one more, modulo 4.
+    pub fn next(self) -> Pid
+        ensures value { λ r. ⌜ r ≡ next-pid self ⌝ }
+        ensures law { λ r. ⌜ pid-number r ≡ (pid-number self + 1) % 4 ⌝ }
+    {
+        match self {
+            Pid::Zero => Pid::One,
+            Pid::One => Pid::Two,
+            Pid::Two => Pid::Three,
+            Pid::Three => Pid::Zero,
+        }
+    }
 }
 
 impl Payload {
@@ -118,6 +139,16 @@ impl Payload {
         let mut held = [0; 32];
         held[0..len].copy_from_slice(given);
         Some(Payload { held, len })
+    }
+
+    // A payload of no bytes: that of an acknowledgement.
+    pub fn empty() -> Payload
+        ensures { λ r. ⌜ payload-bytes r ≡ [] ⌝ }
+    {
+        Payload {
+            held: [0; 32],
+            len: 0,
+        }
     }
 
     pub fn bytes(&self) -> &[u8]

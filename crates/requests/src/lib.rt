@@ -1,0 +1,14 @@
+// What the lines of a script ask for.
+mod lines;
+mod reading;
+
+pub use lines::Cannot;
+pub use lines::Form;
+pub use lines::Kind;
+pub use lines::Line;
+pub use lines::Stop;
+pub use lines::StopFromAlloc;
+pub use lines::StopFromCannot;
+pub use lines::StopFromUnread;
+pub use lines::Wanted;
+pub use reading::parse;
