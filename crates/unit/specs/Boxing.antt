@@ -14,9 +14,7 @@ use Rattle.registers.specs.File.{byte-of}
 use Rattle.commands.specs.Status.{no-flags}
 use Rattle.bench.specs.Checking.{fault-of}
 use Rattle.unit.specs.declared.memory.Memories.{Memories}
-use Rattle.unit.specs.declared.state.Mode.the-variants.{Shutdown}
-use Rattle.unit.specs.declared.state.Control.{Control}
-use Rattle.unit.specs.declared.state.Counts.{Counts}
+use Rattle.modes.specs.declared.core.Mode.the-variants.{Shutdown}
 use Rattle.unit.specs.declared.state.State.{State}
 
 abbrev pub no-memories : Memories
@@ -27,9 +25,7 @@ abbrev pub boxed : ℕ → Registers → State
 boxed width f = record {
   registers = f;
   fault = fault-of width f;
-  control = record { ce = false; mode = Shutdown; config = byte-of f Config };
-  flags = no-flags;
-  counts = record { again = 0; lost = 0 };
+  core = record { ce = false; mode = Shutdown; config = byte-of f Config; flags = no-flags; counts = record { again = 0; lost = 0 } };
   pid = Zero;
   tx = Empty;
   rx = Empty;

@@ -1,2 +1,6 @@
 pub mod Entries
 pub mod Boxing
+pub mod Units
+pub mod Ticking
+pub mod Commanding
+pub mod Hearing

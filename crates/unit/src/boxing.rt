@@ -4,15 +4,15 @@ ghost use Rattle.commands.specs.Status.{irq-of, Low-when};
 ghost use Rattle.unit.specs.Boxing.{boxed, no-memories};
 use crate::memory::Memories;
 use crate::state::Boxed;
-use crate::state::Control;
-use crate::state::Counts;
-use crate::state::Mode;
 use crate::state::State;
 use bench::Bench;
 use checks::Check;
 use commands::Flags;
 use commands::irq_low;
 use frames::Pid;
+use modes::Core;
+use modes::Counts;
+use modes::Mode;
 use queue::Queue;
 use registers::Register;
 use std::marker::PhantomData;
@@ -38,13 +38,13 @@ impl<C: Check> Boxed<C> {
             state: State {
                 registers,
                 fault,
-                control: Control {
+                core: Core {
                     ce: false,
                     mode: Mode::Shutdown,
                     config,
+                    flags: Flags::none(),
+                    counts: Counts { again: 0, lost: 0 },
                 },
-                flags: Flags::none(),
-                counts: Counts { again: 0, lost: 0 },
                 pid: Pid::Zero,
                 tx: Queue::Empty,
                 rx: Queue::Empty,
@@ -56,9 +56,9 @@ impl<C: Check> Boxed<C> {
 
     // Whether the IRQ pin is low. It can always be observed, also of a unit that was boxed with a fault.
     pub fn irq_is_low(&self) -> bool
-        ensures value { λ r. ⌜ r ≡ irq-of (now (self .entry) .state .flags) (now (self .entry) .state .control .config) ⌝ }
-        ensures law { λ r. ⌜ Low-when (now (self .entry) .state .flags) (now (self .entry) .state .control .config) r ⌝ }
+        ensures value { λ r. ⌜ r ≡ irq-of (now (self .entry) .state .core .flags) (now (self .entry) .state .core .config) ⌝ }
+        ensures law { λ r. ⌜ Low-when (now (self .entry) .state .core .flags) (now (self .entry) .state .core .config) r ⌝ }
     {
-        irq_low(self.state.flags, self.state.control.config)
+        irq_low(self.state.core.flags, self.state.core.config)
     }
 }

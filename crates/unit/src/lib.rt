@@ -1,9 +1,14 @@
 // The boxed unit.
 mod boxing;
+mod commanding;
 mod entries;
 mod entry;
+mod hearing;
 mod memory;
+mod remembering;
+mod settings;
 mod state;
+mod ticking;
 
 pub use entry::Data;
 pub use entry::Outgoing;
@@ -11,7 +16,4 @@ pub use entry::Received;
 pub use memory::Memories;
 pub use memory::Memory;
 pub use state::Boxed;
-pub use state::Control;
-pub use state::Counts;
-pub use state::Mode;
 pub use state::State;

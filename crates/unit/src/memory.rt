@@ -1,9 +1,7 @@
-use frames::Pid;
-
-// What a pipe remembers of the last payload taken on it: its packet identity, and its check as a plain number.
+// What a pipe remembers of the last payload taken on it: its packet identity and its check, as plain numbers.
 #[derive(Clone, Copy)]
 pub struct Memory {
-    pub pid: Pid,
+    pub pid: u8,
     pub check: u16,
 }
 

@@ -1,0 +1,9 @@
+// The modes of a boxed unit, its flags and its counters: what CE, ticks, acknowledgements and flushes do to them.
+mod core;
+mod running;
+
+pub use core::Core;
+pub use core::Counts;
+pub use core::Mode;
+pub use core::Retry;
+pub use core::Role;
