@@ -19,9 +19,7 @@ fn resting(role: Role, ce: bool) -> Mode
     match (role, ce) {
         (_, false) => Mode::Standby,
         (Role::Sender, true) => Mode::IdleTx,
-        (Role::Receiver, true) => Mode::Tuning {
-            left: TUNING_TICKS,
-        },
+        (Role::Receiver, true) => Mode::Tuning { left: TUNING_TICKS },
     }
 }
 
@@ -72,9 +70,7 @@ impl Core {
         ensures { λ _. ⌜ now (self .exit) ≡ begun (now (self .entry)) ⌝ }
     {
         self.counts.again = 0;
-        self.mode = Mode::Tuning {
-            left: TUNING_TICKS,
-        };
+        self.mode = Mode::Tuning { left: TUNING_TICKS };
     }
 
     // The last Waiting tick with no retransmit left.
@@ -185,7 +181,8 @@ impl Core {
         self.config = config;
         match (self.mode, stands(config, 1)) {
             (Mode::Shutdown, true) => self.mode = Mode::Starting { left: START_TICKS },
-            (Mode::Starting { .. } | Mode::Standby | Mode::IdleTx, false) => self.mode = Mode::Shutdown,
+            (Mode::Starting { .. } | Mode::Standby | Mode::IdleTx, false) => self.mode =
+                Mode::Shutdown,
             _ => {}
         }
     }

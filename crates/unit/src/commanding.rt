@@ -57,7 +57,12 @@ impl State {
     }
 
     // R_REGISTER.
-    fn read_register(&self, register: Register, data: &[u8], buffer: &mut [u8]) -> Result<usize, Refusal>
+    fn read_register(
+        &self,
+        register: Register,
+        data: &[u8],
+        buffer: &mut [u8],
+    ) -> Result<usize, Refusal>
         ensures answer { λ r. ⌜ r ≡ serve-answer (now (self .entry)) (length (now (buffer .entry))) (read-register register (now («data» .entry))) ⌝ }
         ensures buffer { λ _. ⌜ now (buffer .exit) ≡ serve-buffer (now (self .entry)) (now (buffer .entry)) (read-register register (now («data» .entry))) ⌝ }
     {
@@ -113,7 +118,12 @@ impl State {
     }
 
     // W_REGISTER.
-    fn write_register(&mut self, register: Register, data: &[u8], buffer: &mut [u8]) -> Result<usize, Refusal>
+    fn write_register(
+        &mut self,
+        register: Register,
+        data: &[u8],
+        buffer: &mut [u8],
+    ) -> Result<usize, Refusal>
         ensures answer { λ r. ⌜ r ≡ serve-answer (now (self .entry)) (length (now (buffer .entry))) (write-register register (now («data» .entry))) ⌝ }
         ensures state { λ _. ⌜ now (self .exit) ≡ serve-after (now (self .entry)) (length (now (buffer .entry))) (write-register register (now («data» .entry))) ⌝ }
         ensures buffer { λ _. ⌜ now (buffer .exit) ≡ serve-buffer (now (self .entry)) (now (buffer .entry)) (write-register register (now («data» .entry))) ⌝ }

@@ -133,7 +133,9 @@ impl State {
     fn hear_as_sender(&mut self, fields: &Fields)
         ensures { λ _. ⌜ now (self .exit) ≡ heard-by-sender (now (self .entry)) (packet-of (now (fields .entry))) .state ⌝ }
     {
-        if fields.payload.bytes().is_empty() && pipe_in_use(&self.registers, Pipe::P0).same(&fields.address) {
+        if fields.payload.bytes().is_empty()
+            && pipe_in_use(&self.registers, Pipe::P0).same(&fields.address)
+        {
             let _ = self.tx.pop();
             let left = !self.tx.is_empty();
             self.core.acknowledge(left);

@@ -38,6 +38,6 @@ returns-in-None c =
       answer = c .reply .ensures .answer ∙ h .0;
       state =
           c .store .ensures ∙ ap (λ (v : ℕ). written s r v) (c .first-byte .ensures)
-              ∙ sym (ap (λ (o : Option Refusal). kept-or o s (written s r (getD d 0 0))) n);
+          ∙ sym (ap (λ (o : Option Refusal). kept-or o s (written s r (getD d 0 0))) n);
       buffer = c .reply .ensures .after ∙ ap (λ (l : Live). replied b (l .status) []) (c .live-status .ensures) ∙ h .1;
     }
