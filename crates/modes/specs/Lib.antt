@@ -1,1 +1,2 @@
 pub mod Modes
+pub mod Budget

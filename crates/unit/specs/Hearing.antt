@@ -121,10 +121,11 @@ delivered s = record {
 }
 
 -- length 0 to its own address is the acknowledgement
+abbrev pub is-acknowledgement : State → Packet → Bool
+is-acknowledgement s p = eqb (length (p .payload)) 0 && sameBytes (in-use (s .registers) (pipe-address (s .registers) P0)) (p .address)
+
 abbrev pub heard-by-sender : State → Packet → Outcome
-heard-by-sender s p =
-    cond (eqb (length (p .payload)) 0 && sameBytes (in-use (s .registers) (pipe-address (s .registers) P0)) (p .address))
-    (dropped (delivered s)) (dropped s)
+heard-by-sender s p = cond (is-acknowledgement s p) (dropped (delivered s)) (dropped s)
 
 -- ---- who listens when
 

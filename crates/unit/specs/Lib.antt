@@ -4,3 +4,4 @@ pub mod Units
 pub mod Ticking
 pub mod Commanding
 pub mod Hearing
+pub mod Laws
