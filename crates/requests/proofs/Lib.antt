@@ -1,2 +1,4 @@
 pub mod Turned
+pub mod Steps
+pub mod UnitLines
 pub mod Grammar

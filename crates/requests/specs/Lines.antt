@@ -12,7 +12,7 @@ use Rattle.std.specs.declared.option.Option.{Option}
 use Rattle.std.specs.declared.option.Option.the-variants.{Some, None}
 use Rattle.std.specs.declared.result.Result.{Result}
 use Rattle.std.specs.declared.result.Result.the-variants.{Ok, Err}
-use Rattle.words.specs.Numbers.{within, together-of, decimal-of}
+use Rattle.words.specs.Numbers.{within, byte-of, together-of, decimal-of}
 use Rattle.words.specs.Bytes.{bytes-from}
 use Rattle.frames.specs.Packet.{Packet}
 use Rattle.frames.specs.Calls.{width-of, packet-of}
@@ -20,8 +20,11 @@ use Rattle.requests.specs.declared.lines.Kind.{Kind}
 use Rattle.requests.specs.declared.lines.Kind.the-variants.{Crc8, Crc16}
 use Rattle.requests.specs.declared.lines.Form.{Form}
 use Rattle.requests.specs.declared.lines.Form.the-variants as form
+use Rattle.requests.specs.declared.label.Label.{Label}
 use Rattle.requests.specs.declared.lines.Line.{Line}
 use Rattle.requests.specs.declared.lines.Line.the-variants as line
+use Rattle.requests.specs.declared.lines.UnitLine.{UnitLine}
+use Rattle.requests.specs.declared.lines.UnitLine.the-variants as unit-line
 use Rattle.requests.specs.declared.lines.Cannot.{Cannot}
 use Rattle.requests.specs.declared.lines.Cannot.the-variants.{Word, TooFew, TooMany, PayloadLength}
 use Rattle.requests.specs.declared.lines.Wanted.the-variants as want
@@ -30,6 +33,17 @@ use Rattle.requests.specs.declared.lines.Stop.the-variants.{Cannot as Unable, 
 
 -- ---- what lines ask for
 
+-- what is asked of the unit under a label
+pub data UnitRequest : Type 0 where
+  -- a new bench unit in its place
+  bench : UnitRequest
+  load : List ℕ → UnitRequest
+  check : UnitRequest
+  box : UnitRequest
+  irq : UnitRequest
+  -- a host command, with a reply buffer of so many bytes
+  command : (room : ℕ) → List ℕ → UnitRequest
+
 pub data Request : Type 0 where
   -- the check of what follows
   kind : Kind → Request
@@ -37,11 +51,27 @@ pub data Request : Type 0 where
   pack : Packet → Request
   -- what the first bits of these bytes say to a reader of addresses of that width
   read : (width bits : ℕ) → List ℕ → Request
+  -- what a profile has for the register at an address
+  field : (register : ℕ) → List ℕ → Request
+  unit : (label : ℕ) → UnitRequest → Request
+
+abbrev pub asked-of : UnitLine → UnitRequest
+asked-of unit-line.Bench = bench
+asked-of (unit-line.Load p) = load (vec-items p)
+asked-of unit-line.Check = check
+asked-of unit-line.Box = box
+asked-of unit-line.Irq = irq
+asked-of (unit-line.Command room bs) = command room (vec-items bs)
+
+abbrev pub place-of : Label → ℕ
+place-of l = l .place
 
 abbrev pub asked : Line → Request
 asked (line.Kind k) = kind k
 asked (line.Pack f) = pack (packet-of f)
 asked (line.Read w n bs) = read (width-of w) n (vec-items bs)
+asked (line.Field r p) = field r (vec-items p)
+asked (line.Unit l u) = unit (place-of l) (asked-of u)
 
 -- r is what x says
 abbrev pub Means : {X Y : Type 0} → (X → Y) → Result X Cannot → Result Y Cannot → Type 0
@@ -66,11 +96,21 @@ or-else None e = Err e
 
 -- ---- one word
 
+abbrev pub unit-form-named : List ℕ → Option Form
+unit-form-named w =
+    cond (sameBytes w (codes "bench")) (Some form.Bench) (
+    cond (sameBytes w (codes "load")) (Some form.Load) (
+    cond (sameBytes w (codes "field")) (Some form.Field) (
+    cond (sameBytes w (codes "check")) (Some form.Check) (
+    cond (sameBytes w (codes "box")) (Some form.Box) (
+    cond (sameBytes w (codes "irq")) (Some form.Irq) (
+    cond (sameBytes w (codes "command")) (Some form.Command) None))))))
+
 abbrev pub form-named : List ℕ → Option Form
 form-named w =
     cond (sameBytes w (codes "kind")) (Some form.Kind) (
     cond (sameBytes w (codes "pack")) (Some form.Pack) (
-    cond (sameBytes w (codes "read")) (Some form.Read) None))
+    cond (sameBytes w (codes "read")) (Some form.Read) (unit-form-named w)))
 
 abbrev pub kind-named : List ℕ → Result Kind Cannot
 kind-named w = cond (sameBytes w (codes "crc8")) (Ok Crc8) (cond (sameBytes w (codes "crc16")) (Ok Crc16) (Err (Word 2 want.Kind)))
@@ -99,6 +139,22 @@ width-number w = number-in 3 5 (Word 2 want.Width) (decimal-of w)
 
 abbrev pub bit-count : List ℕ → Result ℕ Cannot
 bit-count w = number-in 0 65535 (Word 3 want.BitCount) (decimal-of w)
+
+abbrev pub label-of : List ℕ → Result ℕ Cannot
+label-of w = number-in 0 7 (Word 2 want.Label) (decimal-of w)
+
+abbrev pub register-of : List ℕ → Result ℕ Cannot
+register-of w = or-else (byte-of w) (Word 2 want.Register)
+
+abbrev pub room-number : List ℕ → Result ℕ Cannot
+room-number w = number-in 0 255 (Word 3 want.Room) (decimal-of w)
+
+abbrev pub room-behind : ℕ → List ℕ → Result (Option ℕ) Cannot
+room-behind first digits = cond (eqb first 47) (then (room-number digits) (λ n. Ok (Some n))) (Ok None)
+
+-- the room for a reply, if the word begins with '/'
+abbrev pub room-of : List ℕ → Result (Option ℕ) Cannot
+room-of w = room-behind (getD w 0 0) (drop 1 w)
 
 -- ---- the words of a line
 
@@ -141,10 +197,38 @@ read-line ws =
     then (bit-count (word-at ws 2)) (λ n.
     then (bytes-at ws 3) (λ bs. Ok (read w n bs)))))
 
+-- bench U, check U, box U, irq U
+abbrev pub plain-line : Form → UnitRequest → List (List ℕ) → Result Request Cannot
+plain-line form q ws = at-least 2 form ws (at-most 2 form ws (then (label-of (word-at ws 1)) (λ u. Ok (unit u q))))
+
+-- field RR BYTES
+abbrev pub field-line : List (List ℕ) → Result Request Cannot
+field-line ws = at-least 2 form.Field ws (then (register-of (word-at ws 1)) (λ r. then (bytes-at ws 2) (λ p. Ok (field r p))))
+
+-- load U BYTES
+abbrev pub load-line : List (List ℕ) → Result Request Cannot
+load-line ws = at-least 2 form.Load ws (then (label-of (word-at ws 1)) (λ u. then (bytes-at ws 2) (λ p. Ok (unit u (load p)))))
+
+-- 33 bytes for the reply where the line says nothing of it
+abbrev pub command-with : List (List ℕ) → ℕ → Option ℕ → Result Request Cannot
+command-with ws u (Some room) = then (bytes-at ws 3) (λ bs. Ok (unit u (command room bs)))
+command-with ws u None = then (bytes-at ws 2) (λ bs. Ok (unit u (command 33 bs)))
+
+-- command U BYTES, command U /R BYTES
+abbrev pub command-line : List (List ℕ) → Result Request Cannot
+command-line ws = at-least 2 form.Command ws (then (label-of (word-at ws 1)) (λ u. then (room-of (word-at ws 2)) (command-with ws u)))
+
 abbrev pub line-as : Option Form → List (List ℕ) → Result Request Cannot
 line-as (Some form.Kind) ws = kind-line ws
 line-as (Some form.Pack) ws = pack-line ws
 line-as (Some form.Read) ws = read-line ws
+line-as (Some form.Field) ws = field-line ws
+line-as (Some form.Bench) ws = plain-line form.Bench bench ws
+line-as (Some form.Check) ws = plain-line form.Check check ws
+line-as (Some form.Box) ws = plain-line form.Box box ws
+line-as (Some form.Irq) ws = plain-line form.Irq irq ws
+line-as (Some form.Load) ws = load-line ws
+line-as (Some form.Command) ws = command-line ws
 line-as None ws = Err (Word 1 want.Form)
 
 -- what a line asks for, or why it cannot be carried out: of the reasons that apply the one that the leftmost word gives,

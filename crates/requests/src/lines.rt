@@ -2,6 +2,7 @@
 ghost use mathlib.Core.Path.{_≡_};
 ghost use Rattle.requests.specs.declared.lines.Stop.the-variants.{Cannot as Unable, Memory};
 ghost use Rattle.requests.specs.Stops.{of-unread};
+use crate::label::Label;
 use frames::AddressWidth;
 use frames::Fields;
 use std::alloc::AllocError;
@@ -23,6 +24,29 @@ pub enum Line {
         bits: u16,
         bytes: Vec<u8>,
     },
+    // looks a register up in a profile
+    Field {
+        register: u8,
+        profile: Vec<u8>,
+    },
+    // is for the unit under a label
+    Unit {
+        label: Label,
+        line: UnitLine,
+    },
+}
+
+// What a line asks of the unit under a label.
+#[derive(Drop)]
+pub enum UnitLine {
+    // a new bench unit in its place
+    Bench,
+    Load { profile: Vec<u8> },
+    Check,
+    Box,
+    Irq,
+    // a host command, with a reply buffer of so many bytes
+    Command { room: u8, bytes: Vec<u8> },
 }
 
 // The lines by their first word.
@@ -31,6 +55,13 @@ pub enum Form {
     Kind,
     Pack,
     Read,
+    Bench,
+    Load,
+    Field,
+    Check,
+    Box,
+    Irq,
+    Command,
 }
 
 // What a word is to be.
@@ -44,6 +75,22 @@ pub enum Wanted {
     Width,
     BitCount,
     Byte,
+    Label,
+    Register,
+    Room,
+}
+
+// Why the unit under a label cannot do what a line asks of it.
+#[derive(Clone, Copy)]
+pub enum Lack {
+    // there is none
+    NoUnit,
+    // it is boxed, and the line is for a bench unit
+    IsBoxed,
+    // it is on the bench, and the line is for a boxed unit
+    OnBench,
+    // it is boxed, and takes no host commands yet
+    NoModes,
 }
 
 // Why a line cannot be carried out. A word is counted from 1.
@@ -53,6 +100,7 @@ pub enum Cannot {
     TooFew(Form),
     TooMany(Form),
     PayloadLength,
+    Unit { label: u8, lack: Lack },
 }
 
 // Why a line goes no further: it cannot be carried out, or there is no memory, which ends the run.

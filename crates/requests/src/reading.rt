@@ -15,7 +15,13 @@ use crate::lines::Stop;
 use crate::lines::StopFromAlloc;
 use crate::lines::StopFromCannot;
 use crate::lines::StopFromUnread;
+use crate::lines::UnitLine;
 use crate::lines::Wanted;
+use crate::units::command_line;
+use crate::units::field_line;
+use crate::units::load_line;
+use crate::units::plain_line;
+use crate::units::unit_form;
 use frames::Address;
 use frames::AddressWidth;
 use frames::Fields;
@@ -31,7 +37,7 @@ use words::reversed;
 use words::together;
 use words::word;
 
-fn unfit(word: usize, wanted: Wanted) -> Cannot
+pub(crate) fn unfit(word: usize, wanted: Wanted) -> Cannot
     ensures { λ r. ⌜ r ≡ Word word wanted ⌝ }
 {
     Cannot::Word { word, wanted }
@@ -47,7 +53,7 @@ fn form_of(word: &[u8]) -> Option<Form>
     } else if is(word, "read") {
         Some(Form::Read)
     } else {
-        None
+        unit_form(word)
     }
 }
 
@@ -181,6 +187,13 @@ fn words_line(heap: Global, words: &[&[u8]]) -> Result<Line, Stop>
         Form::Kind => kind_line(words),
         Form::Pack => pack_line(heap, words),
         Form::Read => read_line(heap, words),
+        Form::Field => field_line(heap, words),
+        Form::Bench => plain_line(words, form, UnitLine::Bench),
+        Form::Check => plain_line(words, form, UnitLine::Check),
+        Form::Box => plain_line(words, form, UnitLine::Box),
+        Form::Irq => plain_line(words, form, UnitLine::Irq),
+        Form::Load => load_line(heap, words),
+        Form::Command => command_line(heap, words),
     }
 }
 

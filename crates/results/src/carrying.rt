@@ -1,23 +1,31 @@
 // Lines carried out.
 ghost use mathlib.Core.Path.{_≡_};
 ghost use Rattle.frames.specs.Calls.{width-of, packet-of, Packed, Reads};
-ghost use Rattle.requests.specs.Lines.{asked};
-ghost use Rattle.results.specs.Outcomes.{check-width, check-meaning, outcome-of, pack-outcome, read-outcome, carried, kind-after};
+ghost use Rattle.std.specs.Vec.{made};
+ghost use Rattle.requests.specs.Lines.{asked, Gives};
+ghost use Rattle.results.specs.Outcomes.{check-width, check-meaning, outcome-of, pack-outcome, read-outcome, field-outcome, carried, units-after-request, Kept};
 use checks::Crc8;
 use checks::Crc8Check;
 use checks::Crc16;
 use checks::Crc16Check;
+use desk::UnitAnswer;
+use desk::Units;
 use frames::AddressWidth;
 use frames::Fields;
 use frames::Heard;
 use frames::Refusal;
 use frames::pack;
 use frames::read;
+use requests::Cannot;
 use requests::Kind;
 use requests::Line;
+use requests::Stop;
+use requests::StopFromAlloc;
+use std::alloc::AllocError;
+use std::alloc::Global;
 
 // What carrying out a line gives.
-#[derive(Clone, Copy)]
+#[derive(Drop)]
 pub enum Answer {
     Done,
     // a frame of so many bits, at the front of a buffer
@@ -25,6 +33,10 @@ pub enum Answer {
     Heard(Heard),
     Nothing,
     Refused(Refusal),
+    // what a profile has for a register
+    Field(Vec<u8>),
+    Absent,
+    Unit(UnitAnswer),
 }
 
 fn pack_as(kind: Kind, fields: &Fields, frame: &mut [u8]) -> Result<usize, Refusal>
@@ -72,17 +84,48 @@ fn heard(kind: Kind, frame: &[u8], count: usize, width: AddressWidth) -> Answer
     }
 }
 
-// Carries out a line with the check in force, and sets the check where the line says so.
-pub fn carry_out(kind: &mut Kind, line: &Line) -> Answer
-    ensures answer { λ r. ⌜ outcome-of r ≡ carried (now (kind .entry)) (asked (now (line .entry))) ⌝ }
-    ensures kind { λ _. ⌜ now (kind .exit) ≡ kind-after (now (kind .entry)) (asked (now (line .entry))) ⌝ }
+fn field(heap: Global, register: u8, profile: &[u8]) -> Result<Answer, AllocError>
+    ensures { λ r. ⌜ made r (λ a. outcome-of a ≡ field-outcome register (now (profile .entry))) ⌝ }
+{
+    match profile::field(profile, register) {
+        Ok(Some(bytes)) => Ok(Answer::Field(bytes.to_vec(heap)?)),
+        Ok(None) => Ok(Answer::Absent),
+        Err(refusal) => Ok(Answer::Unit(UnitAnswer::Refused(refusal))),
+    }
+}
+
+fn done_with(heap: Global, units: &mut Units, line: &Line) -> Result<Answer, Stop>
+    ensures answer { λ r. ⌜ Gives outcome-of r (carried (now (units .entry)) (asked (now (line .entry)))) ⌝ }
+    ensures units { λ _. ⌜ now (units .exit) ≡ units-after-request (now (units .entry)) (asked (now (line .entry))) ⌝ }
 {
     match line {
         Line::Kind(named) => {
-            *kind = *named;
-            Answer::Done
+            *units = Units::new(*named);
+            Ok(Answer::Done)
         }
-        Line::Pack(fields) => packed(*kind, fields),
-        Line::Read { width, bits, bytes } => heard(*kind, bytes, usize::from(*bits), *width),
+        Line::Pack(fields) => Ok(packed(units.kind(), fields)),
+        Line::Read { width, bits, bytes } => {
+            Ok(heard(units.kind(), bytes, usize::from(*bits), *width))
+        }
+        Line::Field { register, profile } => {
+            let answer = field(heap, *register, profile)?;
+            Ok(answer)
+        }
+        Line::Unit { label, line } => match units.call(*label, line) {
+            Ok(answer) => Ok(Answer::Unit(answer)),
+            Err(lack) => Err(Stop::Cannot(Cannot::Unit {
+                label: label.place,
+                lack,
+            })),
+        },
     }
+}
+
+// Carries out a line on the units, with the check in force; or says why it cannot be carried out.
+pub fn carry_out(heap: Global, units: &mut Units, line: &Line) -> Result<Answer, Stop>
+    ensures answer { λ r. ⌜ Gives outcome-of r (carried (now (units .entry)) (asked (now (line .entry)))) ⌝ }
+    ensures units { λ _. ⌜ now (units .exit) ≡ units-after-request (now (units .entry)) (asked (now (line .entry))) ⌝ }
+    ensures kept { λ _. ⌜ Kept (carried (now (units .entry)) (asked (now (line .entry)))) (now (units .entry)) (now (units .exit)) ⌝ }
+{
+    done_with(heap, units, line)
 }

@@ -2,14 +2,16 @@
 ghost use mathlib.Core.Path.{_≡_};
 ghost use mathlib.Core.List.{_++_};
 ghost use Prim.Native.Nat.{_+_, _/_};
-ghost use lib.ListN.{take};
 ghost use Rattle.std.specs.Of.Vec.{vec-items};
 ghost use Rattle.std.specs.Vec.{made};
 ghost use Rattle.words.specs.Added.{Adds};
 ghost use Rattle.frames.specs.Calls.{packet-of};
 ghost use Rattle.results.specs.Outcomes.{outcome-of};
-ghost use Rattle.results.specs.Texts.{no-ack-text, packet-text, frame-text, refusal-text, result-text, usage-text, wanted-text, word-text, why-text, cannot-text};
+ghost use Rattle.results.specs.Texts.{no-ack-text, packet-text, frame-text, refusal-text, field-text, result-text, usage-text, wanted-text, word-text, why-text, cannot-text};
 use crate::carrying::Answer;
+use answers::front;
+use answers::push_lack;
+use answers::push_unit_answer;
 use frames::Fields;
 use requests::Cannot;
 use requests::Form;
@@ -21,13 +23,6 @@ use words::push_decimal;
 use words::push_digits;
 use words::push_text;
 use words::reversed;
-
-// The first bytes, all if there are fewer.
-pub(crate) fn front(bytes: &[u8], n: usize) -> &[u8]
-    ensures { λ r. ⌜ now r ≡ take n (now (bytes .entry)) ⌝ }
-{
-    if n < bytes.len() { &bytes[0..n] } else { bytes }
-}
 
 // How many bytes so many bits fill.
 fn filled(bits: usize) -> usize
@@ -77,6 +72,14 @@ fn push_refusal(out: &mut Vec<u8>, number: u8) -> Result<(), AllocError>
     Ok(())
 }
 
+fn push_field(out: &mut Vec<u8>, bytes: &[u8]) -> Result<(), AllocError>
+    ensures { λ r. ⌜ made r (λ _. Adds (vec-items (now (out .entry))) (field-text (now (bytes .entry))) (vec-items (now (out .exit)))) ⌝ }
+{
+    push_text(out, "ok")?;
+    push_bytes(out, bytes)?;
+    Ok(())
+}
+
 // Adds the result of a line that was carried out.
 pub fn push_answer(heap: Global, out: &mut Vec<u8>, answer: &Answer) -> Result<(), AllocError>
     ensures { λ r. ⌜ made r (λ _. Adds (vec-items (now (out .entry))) (result-text (outcome-of (now (answer .entry)))) (vec-items (now (out .exit)))) ⌝ }
@@ -90,6 +93,12 @@ pub fn push_answer(heap: Global, out: &mut Vec<u8>, answer: &Answer) -> Result<(
             Ok(())
         }
         Answer::Refused(refusal) => push_refusal(out, refusal.number()),
+        Answer::Field(bytes) => push_field(out, bytes),
+        Answer::Absent => {
+            push_text(out, "ok absent")?;
+            Ok(())
+        }
+        Answer::Unit(answer) => push_unit_answer(out, answer),
     }
 }
 
@@ -101,6 +110,13 @@ fn usage(form: Form) -> &'static str
         Form::Kind => "kind K",
         Form::Pack => "pack ADDRESS PID NOACK BYTES",
         Form::Read => "read WIDTH BITS BYTES",
+        Form::Bench => "bench U",
+        Form::Load => "load U BYTES",
+        Form::Field => "field RR BYTES",
+        Form::Check => "check U",
+        Form::Box => "box U",
+        Form::Irq => "irq U",
+        Form::Command => "command U BYTES or command U /R BYTES",
     }
 }
 
@@ -109,7 +125,8 @@ fn wish(wanted: Wanted) -> &'static str
     ensures { λ r. ⌜ now r ≡ wanted-text wanted ⌝ }
 {
     match wanted {
-        Wanted::Form => "a line begins with kind, pack or read",
+        Wanted::Form =>
+            "a line begins with kind, pack, read, bench, load, field, check, box, irq or command",
         Wanted::Kind => "a kind is crc8 or crc16",
         Wanted::Address => "an address is 3 to 5 bytes, 6, 8 or 10 hexadecimal digits together",
         Wanted::Pid => "a PID is 0 to 3",
@@ -117,6 +134,9 @@ fn wish(wanted: Wanted) -> &'static str
         Wanted::Width => "an address is 3 to 5 bytes wide",
         Wanted::BitCount => "a bit count is 0 to 65535",
         Wanted::Byte => "a byte is two hexadecimal digits",
+        Wanted::Label => "a unit is 0 to 7",
+        Wanted::Register => "a register is two hexadecimal digits",
+        Wanted::Room => "a reply buffer is /0 to /255",
     }
 }
 
@@ -155,6 +175,7 @@ fn push_why(out: &mut Vec<u8>, cannot: Cannot) -> Result<(), AllocError>
             push_text(out, "over 32 payload bytes")?;
             Ok(())
         }
+        Cannot::Unit { label, lack } => push_lack(out, label, lack),
     }
 }
 

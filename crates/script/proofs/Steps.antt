@@ -20,7 +20,7 @@ module _ (c : Console) (us ws : List (List ℕ)) (same : us ≡ ws) (some : leng
   after-some = ap (λ l. after-line (counted c) (line-of l)) same ∙ sym (ap (λ b. cond b (counted c) (after-line (counted c) (line-of ws))) test)
 
   abbrev text : List (List ℕ) → List ℕ
-  text l = decimal-shown (up (c .lines)) ++ (codes ": " ++ line-text (c .kind) (line-of l))
+  text l = decimal-shown (up (c .lines)) ++ (codes ": " ++ line-text (c .units) (line-of l))
 
   pub printed-some : text us ≡ printed c ws
   printed-some = ap text same ∙ sym (ap (λ b. cond b [] (text ws)) test)

@@ -1,4 +1,4 @@
-// The console: the check in force, and the lines so far.
+// The console: the units, the check in force, and the lines so far.
 ghost use mathlib.Core.Path.{_≡_};
 ghost use mathlib.Core.List.{_++_};
 ghost use lib.Chars.{codes};
@@ -8,13 +8,17 @@ ghost use Rattle.words.specs.Added.{Adds};
 ghost use Rattle.words.specs.Split.{texts, words-of};
 ghost use Rattle.std.specs.declared.result.Result.the-variants.{Ok, Err};
 ghost use Rattle.requests.specs.Lines.{asked, line-of};
+ghost use Rattle.desk.specs.Desks.{kind-of};
 ghost use Rattle.results.specs.Outcomes.{outcome-of};
 ghost use Rattle.results.specs.Texts.{cannot-text};
-ghost use Rattle.script.specs.Console.{up, explained, request-text, line-text, after-line, started, printed, after};
+ghost use Rattle.script.specs.Console.{up, explained, answer-text, request-text, line-text, after-request, after-line, started, printed, after};
+use answers::explain_profile;
+use desk::Units;
 use requests::Cannot;
 use requests::Kind;
 use requests::Line;
 use requests::Stop;
+use requests::UnitLine;
 use requests::parse;
 use results::Answer;
 use results::carry_out;
@@ -28,9 +32,9 @@ use words::push_decimal;
 use words::push_text;
 use words::words;
 
-#[derive(Clone, Copy)]
+#[derive(Drop)]
 pub struct Console {
-    kind: Kind,
+    units: Units,
     lines: u64,
     carried: u64,
     unable: u64,
@@ -43,7 +47,7 @@ fn one_up(n: u64) -> u64
     n.saturating_add(1)
 }
 
-// What a reader finds in the frame that was packed, or that was to be read.
+// What a reader finds in the frame that was packed, or that was to be read; what a profile says.
 fn explain_line(
     heap: Global,
     out: &mut Vec<u8>,
@@ -63,6 +67,9 @@ fn explain_line(
             Answer::Heard(_) => Ok(()),
             Answer::Nothing => Ok(()),
             Answer::Refused(_) => Ok(()),
+            Answer::Field(_) => Ok(()),
+            Answer::Absent => Ok(()),
+            Answer::Unit(_) => Ok(()),
         },
         Line::Read { width, bits, bytes } => explain(
             heap,
@@ -72,16 +79,37 @@ fn explain_line(
             *bits as usize,
             *width,
         ),
+        Line::Field { profile, .. } => explain_profile(out, profile),
+        Line::Unit { line, .. } => match line {
+            UnitLine::Load { profile } => explain_profile(out, profile),
+            _ => Ok(()),
+        },
     }
 }
 
+// The result of a line that was carried out, and below it what it says.
+fn push_result(
+    heap: Global,
+    out: &mut Vec<u8>,
+    kind: Kind,
+    line: &Line,
+    answer: &Answer,
+) -> Result<(), AllocError>
+    ensures { λ r. ⌜ made r (λ _. Adds (vec-items (now (out .entry))) (answer-text kind (asked (now (line .entry))) (outcome-of (now (answer .entry)))) (vec-items (now (out .exit)))) ⌝ }
+{
+    push_answer(heap, out, answer)?;
+    push_text(out, "\n")?;
+    explain_line(heap, out, kind, line, answer)?;
+    Ok(())
+}
+
 impl Console {
-    // A console with the 16-bit check in force, before the first line.
+    // A console with the 16-bit check in force and no units, before the first line.
     pub fn new() -> Console
         ensures { λ r. ⌜ r ≡ started ⌝ }
     {
         Console {
-            kind: Kind::Crc16,
+            units: Units::new(Kind::Crc16),
             lines: 0,
             carried: 0,
             unable: 0,
@@ -95,19 +123,6 @@ impl Console {
         (self.carried, self.unable)
     }
 
-    fn carry(&mut self, heap: Global, line: &Line, out: &mut Vec<u8>) -> Result<(), AllocError>
-        ensures state { λ r. ⌜ made r (λ _. now (self .exit) ≡ after-line (now (self .entry)) (Ok (asked (now (line .entry))))) ⌝ }
-        ensures text { λ r. ⌜ made r (λ _. Adds (vec-items (now (out .entry))) (request-text (now (self .entry) .kind) (asked (now (line .entry)))) (vec-items (now (out .exit)))) ⌝ }
-    {
-        let kind = self.kind;
-        let answer = carry_out(&mut self.kind, line);
-        push_answer(heap, out, &answer)?;
-        push_text(out, "\n")?;
-        explain_line(heap, out, kind, line, &answer)?;
-        self.carried = one_up(self.carried);
-        Ok(())
-    }
-
     fn refuse(&mut self, cannot: Cannot, out: &mut Vec<u8>) -> Result<(), AllocError>
         ensures state { λ r. ⌜ made r (λ _. now (self .exit) ≡ after-line (now (self .entry)) (Err cannot)) ⌝ }
         ensures text { λ r. ⌜ made r (λ _. Adds (vec-items (now (out .entry))) (cannot-text cannot ++ codes "\n") (vec-items (now (out .exit)))) ⌝ }
@@ -118,9 +133,27 @@ impl Console {
         Ok(())
     }
 
+    fn carry(&mut self, heap: Global, line: &Line, out: &mut Vec<u8>) -> Result<(), AllocError>
+        ensures state { λ r. ⌜ made r (λ _. now (self .exit) ≡ after-request (now (self .entry)) (asked (now (line .entry)))) ⌝ }
+        ensures text { λ r. ⌜ made r (λ _. Adds (vec-items (now (out .entry))) (request-text (now (self .entry) .units) (asked (now (line .entry)))) (vec-items (now (out .exit)))) ⌝ }
+    {
+        let kind = self.units.kind();
+        match carry_out(heap, &mut self.units, line) {
+            Ok(answer) => {
+                push_result(heap, out, kind, line, &answer)?;
+                self.carried = one_up(self.carried);
+                Ok(())
+            }
+            Err(stop) => match stop {
+                Stop::Cannot(cannot) => self.refuse(cannot, out),
+                Stop::Memory => Err(AllocError),
+            },
+        }
+    }
+
     fn answer(&mut self, heap: Global, words: &[&[u8]], out: &mut Vec<u8>) -> Result<(), AllocError>
         ensures state { λ r. ⌜ made r (λ _. now (self .exit) ≡ after-line (now (self .entry)) (line-of (texts (now (words .entry))))) ⌝ }
-        ensures text { λ r. ⌜ made r (λ _. Adds (vec-items (now (out .entry))) (line-text (now (self .entry) .kind) (line-of (texts (now (words .entry))))) (vec-items (now (out .exit)))) ⌝ }
+        ensures text { λ r. ⌜ made r (λ _. Adds (vec-items (now (out .entry))) (line-text (now (self .entry) .units) (line-of (texts (now (words .entry))))) (vec-items (now (out .exit)))) ⌝ }
     {
         match parse(heap, words) {
             Ok(line) => self.carry(heap, &line, out),

@@ -19,3 +19,12 @@ returns-in-Byte c = sym (ap wanted-text (c .in-Byte .is))
 
 pub returns-in-Kind : need.returns-in-Kind
 returns-in-Kind c = sym (ap wanted-text (c .in-Kind .is))
+
+pub returns-in-Label : need.returns-in-Label
+returns-in-Label c = sym (ap wanted-text (c .in-Label .is))
+
+pub returns-in-Room : need.returns-in-Room
+returns-in-Room c = sym (ap wanted-text (c .in-Room .is))
+
+pub returns-in-Register : need.returns-in-Register
+returns-in-Register c = sym (ap wanted-text (c .in-Register .is))

@@ -18,7 +18,7 @@ returns c =
     let same : us ≡ ws = ap texts (c .deref-2 .ensures .value) ∙ c .in-Continue-words .ensures tt .value in
     let some : length us ≡ 0 → ⊥ =
     λ e. c .if-count-eq0 .left (c .count .ensures ∙ ap (λ l. length (texts l)) (c .deref .ensures .value ∙ sym (c .deref-2 .ensures .value)) ∙ e) in
-    let at : ℕ → Console = λ n. record { kind = old .kind; lines = n; carried = old .carried; unable = old .unable } in
+    let at : ℕ → Console = λ n. record { units = old .units; lines = n; carried = old .carried; unable = old .unable } in
     record {
       state = c .in-Continue-answer .ensures tt .state ∙ ap (λ n. after-line (at n) (line-of us)) (c .one-up-self .ensures) ∙ after-some old us ws same some;
       text =

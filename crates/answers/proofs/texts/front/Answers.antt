@@ -1,7 +1,7 @@
 use mathlib.Core.Path.{sym}
 use native.Mathlib.Omega.{arith}
 use Rattle.std.proofs.shelf.Lists.{take-all}
-use Rattle.results.proofs.texts.front.Needs as need
+use Rattle.answers.proofs.texts.front.Needs as need
 
 pub returns-else-n-bytes : need.returns-else-n-bytes
 returns-else-n-bytes c = sym (take-all (c .args .n) (c .args .bytes .now) (omega arith))
