@@ -3,7 +3,7 @@
 
 A check is the remainder of a long division of polynomials over GF(2), not a shift register: with n message bits M,
 start value I and W check bits it is (M * x^W + I * x^n) mod G. Whole-byte checks of 16 bits are compared with Python's
-binascii.crc_hqx(data, 0xFFFF). Usage: python3 generate.py > src/table.rt
+binascii.crc_hqx(data, 0xFFFF). Usage: python3 generate.py > src/table.rt, then rt fmt
 """
 import binascii
 import random
@@ -62,7 +62,7 @@ def main():
                 start = g.randrange(8, count)
                 pattern = 1 << 15 | g.randrange(1 << 15) & (0x7FFF if w == 16 else 0x7F00)
                 frames.append((w, address, pid, no_ack, payload, count, data, start, pattern))
-    print('// Made by generate.py beside src/: checks by long division, frames from the field layout.')
+    print('// Made by generate.py beside src/, then laid out by rt fmt: checks by long division, frames from the field layout.')
     print()
     print('// The checks of the first `bits` bits of `data`.')
     print('#[derive(Clone, Copy)]\npub struct Checked {\n    pub data: &\'static [u8],\n    pub bits: usize,\n    pub crc8: u8,\n    pub crc16: u16,\n}\n')
