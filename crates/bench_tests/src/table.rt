@@ -1,0 +1,3813 @@
+// Made by generate.py beside src/: what each call must answer, by a model of its own.
+use crate::case::Call;
+use crate::case::Field;
+use crate::case::Kind;
+use crate::case::Profile;
+use crate::case::Reading;
+use crate::case::Refused;
+use crate::case::Setup;
+use crate::case::Start;
+use crate::case::Value;
+use crate::case::Wide;
+
+// A profile that gives each register that it may name another value than at reset.
+pub static WRITTEN: [u8; 36] = [
+    0x00,
+    0x7F,
+    0xFC,
+    0x7F,
+    0x7D,
+    0x2A,
+    0x15,
+    0x01,
+    0x5F,
+    0x7D,
+    0x27,
+    0x01,
+    0x02,
+    0x03,
+    0x04,
+    0x05,
+    0x06,
+    0x07,
+    0x08,
+    0x09,
+    0x0A,
+    0x21,
+    0x22,
+    0x23,
+    0x24,
+    0x0B,
+    0x0C,
+    0x0D,
+    0x0E,
+    0x0F,
+    0x20,
+    0x1F,
+    0x1E,
+    0x1D,
+    0x1C,
+    0x1B,
+];
+
+// Every refusal, alone and together with later ones.
+pub static REFUSED: [Refused; 56] = [
+    // 1
+    Refused {
+        start: Start::Written,
+        call: Call::Command(&[], 1),
+        number: 1,
+        register: None,
+    },
+    // 1, also 6
+    Refused {
+        start: Start::Written,
+        call: Call::Command(&[], 0),
+        number: 1,
+        register: None,
+    },
+    // 2
+    Refused {
+        start: Start::Written,
+        call: Call::Command(&[0x18], 1),
+        number: 2,
+        register: None,
+    },
+    // 2, also 4
+    Refused {
+        start: Start::Written,
+        call: Call::Command(&[0x38, 0x00], 1),
+        number: 2,
+        register: None,
+    },
+    // 2, also 6
+    Refused {
+        start: Start::Written,
+        call: Call::Command(&[0xFE], 0),
+        number: 2,
+        register: None,
+    },
+    // 2, also 4, also 6
+    Refused {
+        start: Start::Written,
+        call: Call::Command(&[0x1F, 0x00], 0),
+        number: 2,
+        register: None,
+    },
+    // 3
+    Refused {
+        start: Start::Written,
+        call: Call::Command(&[0xE1], 1),
+        number: 3,
+        register: None,
+    },
+    // 3
+    Refused {
+        start: Start::Written,
+        call: Call::Command(&[0xA0, 0x01], 1),
+        number: 3,
+        register: None,
+    },
+    // 3
+    Refused {
+        start: Start::Written,
+        call: Call::Command(
+            &[
+                0xA0,
+                0x00,
+                0x01,
+                0x02,
+                0x03,
+                0x04,
+                0x05,
+                0x06,
+                0x07,
+                0x08,
+                0x09,
+                0x0A,
+                0x0B,
+                0x0C,
+                0x0D,
+                0x0E,
+                0x0F,
+                0x10,
+                0x11,
+                0x12,
+                0x13,
+                0x14,
+                0x15,
+                0x16,
+                0x17,
+                0x18,
+                0x19,
+                0x1A,
+                0x1B,
+                0x1C,
+                0x1D,
+                0x1E,
+                0x1F,
+            ],
+            1,
+        ),
+        number: 3,
+        register: None,
+    },
+    // 3, also 4
+    Refused {
+        start: Start::Written,
+        call: Call::Command(&[0xA0], 1),
+        number: 3,
+        register: None,
+    },
+    // 3, also 4
+    Refused {
+        start: Start::Written,
+        call: Call::Command(
+            &[
+                0xA0,
+                0x00,
+                0x00,
+                0x00,
+                0x00,
+                0x00,
+                0x00,
+                0x00,
+                0x00,
+                0x00,
+                0x00,
+                0x00,
+                0x00,
+                0x00,
+                0x00,
+                0x00,
+                0x00,
+                0x00,
+                0x00,
+                0x00,
+                0x00,
+                0x00,
+                0x00,
+                0x00,
+                0x00,
+                0x00,
+                0x00,
+                0x00,
+                0x00,
+                0x00,
+                0x00,
+                0x00,
+                0x00,
+                0x00,
+            ],
+            1,
+        ),
+        number: 3,
+        register: None,
+    },
+    // 3, also 4
+    Refused {
+        start: Start::Written,
+        call: Call::Command(&[0xE1, 0x00], 1),
+        number: 3,
+        register: None,
+    },
+    // 3, also 4, also 6
+    Refused {
+        start: Start::Written,
+        call: Call::Command(&[0xE2, 0x00], 0),
+        number: 3,
+        register: None,
+    },
+    // 3, also 5
+    Refused {
+        start: Start::Written,
+        call: Call::Command(&[0x61], 8),
+        number: 3,
+        register: None,
+    },
+    // 3, also 6
+    Refused {
+        start: Start::Written,
+        call: Call::Command(&[0xE2], 0),
+        number: 3,
+        register: None,
+    },
+    // 4
+    Refused {
+        start: Start::Written,
+        call: Call::Command(&[0xFF, 0x00], 1),
+        number: 4,
+        register: None,
+    },
+    // 4
+    Refused {
+        start: Start::Written,
+        call: Call::Command(&[0x00, 0x00], 8),
+        number: 4,
+        register: None,
+    },
+    // 4
+    Refused {
+        start: Start::Written,
+        call: Call::Command(&[0x20], 1),
+        number: 4,
+        register: None,
+    },
+    // 4
+    Refused {
+        start: Start::Written,
+        call: Call::Command(&[0x20, 0x0B, 0x0B], 1),
+        number: 4,
+        register: None,
+    },
+    // 4
+    Refused {
+        start: Start::Written,
+        call: Call::Command(&[0x2A, 0x00, 0x00, 0x00, 0x00], 1),
+        number: 4,
+        register: None,
+    },
+    // 4
+    Refused {
+        start: Start::Written,
+        call: Call::Command(&[0x30, 0x00, 0x00, 0x00, 0x00, 0x00, 0x00], 1),
+        number: 4,
+        register: None,
+    },
+    // 4, also 6
+    Refused {
+        start: Start::Written,
+        call: Call::Command(&[0xFF, 0x00], 0),
+        number: 4,
+        register: None,
+    },
+    // 4, also 6
+    Refused {
+        start: Start::Written,
+        call: Call::Command(&[0x0A, 0x00], 5),
+        number: 4,
+        register: None,
+    },
+    // 4, also 7
+    Refused {
+        start: Start::Written,
+        call: Call::Command(&[0x28], 1),
+        number: 4,
+        register: None,
+    },
+    // 4, also 6, also 7, also 9
+    Refused {
+        start: Start::Written,
+        call: Call::Command(&[0x37, 0x11, 0x11], 0),
+        number: 4,
+        register: None,
+    },
+    // 4, also 9
+    Refused {
+        start: Start::Written,
+        call: Call::Command(&[0x25, 0x7E, 0x00], 1),
+        number: 4,
+        register: None,
+    },
+    // 6
+    Refused {
+        start: Start::Written,
+        call: Call::Command(&[0xFF], 0),
+        number: 6,
+        register: None,
+    },
+    // 6
+    Refused {
+        start: Start::Written,
+        call: Call::Command(&[0x00], 1),
+        number: 6,
+        register: None,
+    },
+    // 6
+    Refused {
+        start: Start::Written,
+        call: Call::Command(&[0x0A], 5),
+        number: 6,
+        register: None,
+    },
+    // 6
+    Refused {
+        start: Start::Written,
+        call: Call::Command(&[0x20, 0x08], 0),
+        number: 6,
+        register: None,
+    },
+    // 6
+    Refused {
+        start: Start::Written,
+        call: Call::Command(&[0x30, 0x00, 0x00, 0x00, 0x00, 0x00], 0),
+        number: 6,
+        register: None,
+    },
+    // 6, also 7, also 9
+    Refused {
+        start: Start::Written,
+        call: Call::Command(&[0x28, 0x00], 0),
+        number: 6,
+        register: None,
+    },
+    // 6, also 9
+    Refused {
+        start: Start::Written,
+        call: Call::Command(&[0x25, 0x7E], 0),
+        number: 6,
+        register: None,
+    },
+    // 7, also 9
+    Refused {
+        start: Start::Written,
+        call: Call::Command(&[0x28, 0x00], 1),
+        number: 7,
+        register: None,
+    },
+    // 7, also 9
+    Refused {
+        start: Start::Written,
+        call: Call::Command(&[0x29, 0x00], 1),
+        number: 7,
+        register: None,
+    },
+    // 7, also 9
+    Refused {
+        start: Start::Written,
+        call: Call::Command(&[0x37, 0xFF], 1),
+        number: 7,
+        register: None,
+    },
+    // 9
+    Refused {
+        start: Start::Written,
+        call: Call::Command(&[0x25, 0x7E], 1),
+        number: 9,
+        register: Some(0x05),
+    },
+    // 11
+    Refused {
+        start: Start::Written,
+        call: Call::Load(&[]),
+        number: 11,
+        register: None,
+    },
+    // 11
+    Refused {
+        start: Start::Written,
+        call: Call::Load(&[0x00, 0x00, 0x00, 0x80]),
+        number: 11,
+        register: None,
+    },
+    // 11, also 9
+    Refused {
+        start: Start::Written,
+        call: Call::Load(&[0x00, 0x00, 0x00, 0x20, 0x7E, 0x00]),
+        number: 11,
+        register: None,
+    },
+    // 11, also 9
+    Refused {
+        start: Start::Written,
+        call: Call::Load(&[0x00, 0x00, 0x00, 0x60, 0x7E]),
+        number: 11,
+        register: None,
+    },
+    // 11, also 9
+    Refused {
+        start: Start::Written,
+        call: Call::Load(&[0x00, 0x00, 0x00, 0xA0, 0x7E, 0x00]),
+        number: 11,
+        register: None,
+    },
+    // 9
+    Refused {
+        start: Start::Written,
+        call: Call::Load(&[0x00, 0x00, 0x00, 0x20, 0x7E]),
+        number: 9,
+        register: Some(0x05),
+    },
+    // 9
+    Refused {
+        start: Start::Written,
+        call: Call::Load(&[0x00, 0x00, 0x00, 0x30, 0x2F, 0x7E]),
+        number: 9,
+        register: Some(0x05),
+    },
+    // 9, also 9
+    Refused {
+        start: Start::Written,
+        call: Call::Load(&[0x00, 0x00, 0x00, 0x28, 0x00, 0x7E]),
+        number: 9,
+        register: Some(0x03),
+    },
+    // 9, also 9
+    Refused {
+        start: Start::Written,
+        call: Call::Load(
+            &[
+                0x00,
+                0x40,
+                0x04,
+                0x01,
+                0x80,
+                0x00,
+                0x00,
+                0x00,
+                0x00,
+                0x00,
+                0x21,
+            ],
+        ),
+        number: 9,
+        register: Some(0x00),
+    },
+    // 9, also 9
+    Refused {
+        start: Start::Written,
+        call: Call::Load(
+            &[
+                0x00,
+                0x45,
+                0x00,
+                0x00,
+                0x00,
+                0x00,
+                0x00,
+                0x00,
+                0x00,
+                0x21,
+                0x21,
+            ],
+        ),
+        number: 9,
+        register: Some(0x12),
+    },
+    // 11
+    Refused {
+        start: Start::Reset,
+        call: Call::Count(&[]),
+        number: 11,
+        register: None,
+    },
+    // 11
+    Refused {
+        start: Start::Reset,
+        call: Call::Count(&[0x00, 0x00, 0x00, 0x80]),
+        number: 11,
+        register: None,
+    },
+    // 11
+    Refused {
+        start: Start::Reset,
+        call: Call::Count(&[0x00, 0x00, 0x00, 0x20, 0x7E, 0x00]),
+        number: 11,
+        register: None,
+    },
+    // 11
+    Refused {
+        start: Start::Reset,
+        call: Call::Field(&[], 0x05),
+        number: 11,
+        register: None,
+    },
+    // 11
+    Refused {
+        start: Start::Reset,
+        call: Call::Field(&[0x00, 0x00, 0x00, 0x80], 0x05),
+        number: 11,
+        register: None,
+    },
+    // 11
+    Refused {
+        start: Start::Reset,
+        call: Call::Field(&[0x00, 0x00, 0x00, 0x20, 0x7E, 0x00], 0x05),
+        number: 11,
+        register: None,
+    },
+    // 12
+    Refused {
+        start: Start::Reset,
+        call: Call::Check(Kind::Crc16),
+        number: 12,
+        register: Some(0x00),
+    },
+    // 12
+    Refused {
+        start: Start::Written,
+        call: Call::Check(Kind::Crc16),
+        number: 12,
+        register: Some(0x01),
+    },
+    // 12, also 12
+    Refused {
+        start: Start::Written,
+        call: Call::Check(Kind::Crc8),
+        number: 12,
+        register: Some(0x00),
+    },
+];
+
+// By the first byte, sent alone with much room: the number of the refusal, if it is refused.
+pub static FIRST_BYTES: [Option<u8>; 256] = [
+    None, // 00
+    None, // 01
+    None, // 02
+    None, // 03
+    None, // 04
+    None, // 05
+    None, // 06
+    None, // 07
+    None, // 08
+    None, // 09
+    None, // 0A
+    None, // 0B
+    None, // 0C
+    None, // 0D
+    None, // 0E
+    None, // 0F
+    None, // 10
+    None, // 11
+    None, // 12
+    None, // 13
+    None, // 14
+    None, // 15
+    None, // 16
+    None, // 17
+    Some(2), // 18
+    Some(2), // 19
+    Some(2), // 1A
+    Some(2), // 1B
+    Some(2), // 1C
+    Some(2), // 1D
+    Some(2), // 1E
+    Some(2), // 1F
+    Some(4), // 20
+    Some(4), // 21
+    Some(4), // 22
+    Some(4), // 23
+    Some(4), // 24
+    Some(4), // 25
+    Some(4), // 26
+    Some(4), // 27
+    Some(4), // 28
+    Some(4), // 29
+    Some(4), // 2A
+    Some(4), // 2B
+    Some(4), // 2C
+    Some(4), // 2D
+    Some(4), // 2E
+    Some(4), // 2F
+    Some(4), // 30
+    Some(4), // 31
+    Some(4), // 32
+    Some(4), // 33
+    Some(4), // 34
+    Some(4), // 35
+    Some(4), // 36
+    Some(4), // 37
+    Some(2), // 38
+    Some(2), // 39
+    Some(2), // 3A
+    Some(2), // 3B
+    Some(2), // 3C
+    Some(2), // 3D
+    Some(2), // 3E
+    Some(2), // 3F
+    Some(2), // 40
+    Some(2), // 41
+    Some(2), // 42
+    Some(2), // 43
+    Some(2), // 44
+    Some(2), // 45
+    Some(2), // 46
+    Some(2), // 47
+    Some(2), // 48
+    Some(2), // 49
+    Some(2), // 4A
+    Some(2), // 4B
+    Some(2), // 4C
+    Some(2), // 4D
+    Some(2), // 4E
+    Some(2), // 4F
+    Some(2), // 50
+    Some(2), // 51
+    Some(2), // 52
+    Some(2), // 53
+    Some(2), // 54
+    Some(2), // 55
+    Some(2), // 56
+    Some(2), // 57
+    Some(2), // 58
+    Some(2), // 59
+    Some(2), // 5A
+    Some(2), // 5B
+    Some(2), // 5C
+    Some(2), // 5D
+    Some(2), // 5E
+    Some(2), // 5F
+    Some(2), // 60
+    Some(3), // 61
+    Some(2), // 62
+    Some(2), // 63
+    Some(2), // 64
+    Some(2), // 65
+    Some(2), // 66
+    Some(2), // 67
+    Some(2), // 68
+    Some(2), // 69
+    Some(2), // 6A
+    Some(2), // 6B
+    Some(2), // 6C
+    Some(2), // 6D
+    Some(2), // 6E
+    Some(2), // 6F
+    Some(2), // 70
+    Some(2), // 71
+    Some(2), // 72
+    Some(2), // 73
+    Some(2), // 74
+    Some(2), // 75
+    Some(2), // 76
+    Some(2), // 77
+    Some(2), // 78
+    Some(2), // 79
+    Some(2), // 7A
+    Some(2), // 7B
+    Some(2), // 7C
+    Some(2), // 7D
+    Some(2), // 7E
+    Some(2), // 7F
+    Some(2), // 80
+    Some(2), // 81
+    Some(2), // 82
+    Some(2), // 83
+    Some(2), // 84
+    Some(2), // 85
+    Some(2), // 86
+    Some(2), // 87
+    Some(2), // 88
+    Some(2), // 89
+    Some(2), // 8A
+    Some(2), // 8B
+    Some(2), // 8C
+    Some(2), // 8D
+    Some(2), // 8E
+    Some(2), // 8F
+    Some(2), // 90
+    Some(2), // 91
+    Some(2), // 92
+    Some(2), // 93
+    Some(2), // 94
+    Some(2), // 95
+    Some(2), // 96
+    Some(2), // 97
+    Some(2), // 98
+    Some(2), // 99
+    Some(2), // 9A
+    Some(2), // 9B
+    Some(2), // 9C
+    Some(2), // 9D
+    Some(2), // 9E
+    Some(2), // 9F
+    Some(3), // A0
+    Some(2), // A1
+    Some(2), // A2
+    Some(2), // A3
+    Some(2), // A4
+    Some(2), // A5
+    Some(2), // A6
+    Some(2), // A7
+    Some(2), // A8
+    Some(2), // A9
+    Some(2), // AA
+    Some(2), // AB
+    Some(2), // AC
+    Some(2), // AD
+    Some(2), // AE
+    Some(2), // AF
+    Some(2), // B0
+    Some(2), // B1
+    Some(2), // B2
+    Some(2), // B3
+    Some(2), // B4
+    Some(2), // B5
+    Some(2), // B6
+    Some(2), // B7
+    Some(2), // B8
+    Some(2), // B9
+    Some(2), // BA
+    Some(2), // BB
+    Some(2), // BC
+    Some(2), // BD
+    Some(2), // BE
+    Some(2), // BF
+    Some(2), // C0
+    Some(2), // C1
+    Some(2), // C2
+    Some(2), // C3
+    Some(2), // C4
+    Some(2), // C5
+    Some(2), // C6
+    Some(2), // C7
+    Some(2), // C8
+    Some(2), // C9
+    Some(2), // CA
+    Some(2), // CB
+    Some(2), // CC
+    Some(2), // CD
+    Some(2), // CE
+    Some(2), // CF
+    Some(2), // D0
+    Some(2), // D1
+    Some(2), // D2
+    Some(2), // D3
+    Some(2), // D4
+    Some(2), // D5
+    Some(2), // D6
+    Some(2), // D7
+    Some(2), // D8
+    Some(2), // D9
+    Some(2), // DA
+    Some(2), // DB
+    Some(2), // DC
+    Some(2), // DD
+    Some(2), // DE
+    Some(2), // DF
+    Some(2), // E0
+    Some(3), // E1
+    Some(3), // E2
+    Some(2), // E3
+    Some(2), // E4
+    Some(2), // E5
+    Some(2), // E6
+    Some(2), // E7
+    Some(2), // E8
+    Some(2), // E9
+    Some(2), // EA
+    Some(2), // EB
+    Some(2), // EC
+    Some(2), // ED
+    Some(2), // EE
+    Some(2), // EF
+    Some(2), // F0
+    Some(2), // F1
+    Some(2), // F2
+    Some(2), // F3
+    Some(2), // F4
+    Some(2), // F5
+    Some(2), // F6
+    Some(2), // F7
+    Some(2), // F8
+    Some(2), // F9
+    Some(2), // FA
+    Some(2), // FB
+    Some(2), // FC
+    Some(2), // FD
+    Some(2), // FE
+    None, // FF
+];
+
+// How each register reads, by its address.
+pub static READINGS: [Reading; 24] = [
+    Reading {
+        length: 2,
+        at_reset: [0x0E, 0x08, 0xA5, 0xA5, 0xA5, 0xA5, 0xA5, 0xA5],
+        written: [0x0E, 0x7D, 0xA5, 0xA5, 0xA5, 0xA5, 0xA5, 0xA5],
+    }, // 00
+    Reading {
+        length: 2,
+        at_reset: [0x0E, 0x3F, 0xA5, 0xA5, 0xA5, 0xA5, 0xA5, 0xA5],
+        written: [0x0E, 0x2A, 0xA5, 0xA5, 0xA5, 0xA5, 0xA5, 0xA5],
+    }, // 01
+    Reading {
+        length: 2,
+        at_reset: [0x0E, 0x03, 0xA5, 0xA5, 0xA5, 0xA5, 0xA5, 0xA5],
+        written: [0x0E, 0x15, 0xA5, 0xA5, 0xA5, 0xA5, 0xA5, 0xA5],
+    }, // 02
+    Reading {
+        length: 2,
+        at_reset: [0x0E, 0x03, 0xA5, 0xA5, 0xA5, 0xA5, 0xA5, 0xA5],
+        written: [0x0E, 0x01, 0xA5, 0xA5, 0xA5, 0xA5, 0xA5, 0xA5],
+    }, // 03
+    Reading {
+        length: 2,
+        at_reset: [0x0E, 0x03, 0xA5, 0xA5, 0xA5, 0xA5, 0xA5, 0xA5],
+        written: [0x0E, 0x5F, 0xA5, 0xA5, 0xA5, 0xA5, 0xA5, 0xA5],
+    }, // 04
+    Reading {
+        length: 2,
+        at_reset: [0x0E, 0x02, 0xA5, 0xA5, 0xA5, 0xA5, 0xA5, 0xA5],
+        written: [0x0E, 0x7D, 0xA5, 0xA5, 0xA5, 0xA5, 0xA5, 0xA5],
+    }, // 05
+    Reading {
+        length: 2,
+        at_reset: [0x0E, 0x0E, 0xA5, 0xA5, 0xA5, 0xA5, 0xA5, 0xA5],
+        written: [0x0E, 0x27, 0xA5, 0xA5, 0xA5, 0xA5, 0xA5, 0xA5],
+    }, // 06
+    Reading {
+        length: 2,
+        at_reset: [0x0E, 0x0E, 0xA5, 0xA5, 0xA5, 0xA5, 0xA5, 0xA5],
+        written: [0x0E, 0x0E, 0xA5, 0xA5, 0xA5, 0xA5, 0xA5, 0xA5],
+    }, // 07
+    Reading {
+        length: 2,
+        at_reset: [0x0E, 0x00, 0xA5, 0xA5, 0xA5, 0xA5, 0xA5, 0xA5],
+        written: [0x0E, 0x00, 0xA5, 0xA5, 0xA5, 0xA5, 0xA5, 0xA5],
+    }, // 08
+    Reading {
+        length: 2,
+        at_reset: [0x0E, 0x00, 0xA5, 0xA5, 0xA5, 0xA5, 0xA5, 0xA5],
+        written: [0x0E, 0x00, 0xA5, 0xA5, 0xA5, 0xA5, 0xA5, 0xA5],
+    }, // 09
+    Reading {
+        length: 6,
+        at_reset: [0x0E, 0xE7, 0xE7, 0xE7, 0xE7, 0xE7, 0xA5, 0xA5],
+        written: [0x0E, 0x01, 0x02, 0x03, 0x04, 0x05, 0xA5, 0xA5],
+    }, // 0A
+    Reading {
+        length: 6,
+        at_reset: [0x0E, 0xC2, 0xC2, 0xC2, 0xC2, 0xC2, 0xA5, 0xA5],
+        written: [0x0E, 0x06, 0x07, 0x08, 0x09, 0x0A, 0xA5, 0xA5],
+    }, // 0B
+    Reading {
+        length: 2,
+        at_reset: [0x0E, 0xC3, 0xA5, 0xA5, 0xA5, 0xA5, 0xA5, 0xA5],
+        written: [0x0E, 0x21, 0xA5, 0xA5, 0xA5, 0xA5, 0xA5, 0xA5],
+    }, // 0C
+    Reading {
+        length: 2,
+        at_reset: [0x0E, 0xC4, 0xA5, 0xA5, 0xA5, 0xA5, 0xA5, 0xA5],
+        written: [0x0E, 0x22, 0xA5, 0xA5, 0xA5, 0xA5, 0xA5, 0xA5],
+    }, // 0D
+    Reading {
+        length: 2,
+        at_reset: [0x0E, 0xC5, 0xA5, 0xA5, 0xA5, 0xA5, 0xA5, 0xA5],
+        written: [0x0E, 0x23, 0xA5, 0xA5, 0xA5, 0xA5, 0xA5, 0xA5],
+    }, // 0E
+    Reading {
+        length: 2,
+        at_reset: [0x0E, 0xC6, 0xA5, 0xA5, 0xA5, 0xA5, 0xA5, 0xA5],
+        written: [0x0E, 0x24, 0xA5, 0xA5, 0xA5, 0xA5, 0xA5, 0xA5],
+    }, // 0F
+    Reading {
+        length: 6,
+        at_reset: [0x0E, 0xE7, 0xE7, 0xE7, 0xE7, 0xE7, 0xA5, 0xA5],
+        written: [0x0E, 0x0B, 0x0C, 0x0D, 0x0E, 0x0F, 0xA5, 0xA5],
+    }, // 10
+    Reading {
+        length: 2,
+        at_reset: [0x0E, 0x00, 0xA5, 0xA5, 0xA5, 0xA5, 0xA5, 0xA5],
+        written: [0x0E, 0x20, 0xA5, 0xA5, 0xA5, 0xA5, 0xA5, 0xA5],
+    }, // 11
+    Reading {
+        length: 2,
+        at_reset: [0x0E, 0x00, 0xA5, 0xA5, 0xA5, 0xA5, 0xA5, 0xA5],
+        written: [0x0E, 0x1F, 0xA5, 0xA5, 0xA5, 0xA5, 0xA5, 0xA5],
+    }, // 12
+    Reading {
+        length: 2,
+        at_reset: [0x0E, 0x00, 0xA5, 0xA5, 0xA5, 0xA5, 0xA5, 0xA5],
+        written: [0x0E, 0x1E, 0xA5, 0xA5, 0xA5, 0xA5, 0xA5, 0xA5],
+    }, // 13
+    Reading {
+        length: 2,
+        at_reset: [0x0E, 0x00, 0xA5, 0xA5, 0xA5, 0xA5, 0xA5, 0xA5],
+        written: [0x0E, 0x1D, 0xA5, 0xA5, 0xA5, 0xA5, 0xA5, 0xA5],
+    }, // 14
+    Reading {
+        length: 2,
+        at_reset: [0x0E, 0x00, 0xA5, 0xA5, 0xA5, 0xA5, 0xA5, 0xA5],
+        written: [0x0E, 0x1C, 0xA5, 0xA5, 0xA5, 0xA5, 0xA5, 0xA5],
+    }, // 15
+    Reading {
+        length: 2,
+        at_reset: [0x0E, 0x00, 0xA5, 0xA5, 0xA5, 0xA5, 0xA5, 0xA5],
+        written: [0x0E, 0x1B, 0xA5, 0xA5, 0xA5, 0xA5, 0xA5, 0xA5],
+    }, // 16
+    Reading {
+        length: 2,
+        at_reset: [0x0E, 0x11, 0xA5, 0xA5, 0xA5, 0xA5, 0xA5, 0xA5],
+        written: [0x0E, 0x11, 0xA5, 0xA5, 0xA5, 0xA5, 0xA5, 0xA5],
+    }, // 17
+];
+
+// Values of registers of one byte.
+pub static VALUES: [Value; 214] = [
+    Value {
+        register: 0x00,
+        map: [0x00, 0x00, 0x00, 0x01],
+        value: 0x00,
+        taken: true,
+    },
+    Value {
+        register: 0x00,
+        map: [0x00, 0x00, 0x00, 0x01],
+        value: 0x01,
+        taken: true,
+    },
+    Value {
+        register: 0x00,
+        map: [0x00, 0x00, 0x00, 0x01],
+        value: 0x02,
+        taken: true,
+    },
+    Value {
+        register: 0x00,
+        map: [0x00, 0x00, 0x00, 0x01],
+        value: 0x04,
+        taken: true,
+    },
+    Value {
+        register: 0x00,
+        map: [0x00, 0x00, 0x00, 0x01],
+        value: 0x08,
+        taken: true,
+    },
+    Value {
+        register: 0x00,
+        map: [0x00, 0x00, 0x00, 0x01],
+        value: 0x10,
+        taken: true,
+    },
+    Value {
+        register: 0x00,
+        map: [0x00, 0x00, 0x00, 0x01],
+        value: 0x20,
+        taken: true,
+    },
+    Value {
+        register: 0x00,
+        map: [0x00, 0x00, 0x00, 0x01],
+        value: 0x40,
+        taken: true,
+    },
+    Value {
+        register: 0x00,
+        map: [0x00, 0x00, 0x00, 0x01],
+        value: 0x7F,
+        taken: true,
+    },
+    Value {
+        register: 0x00,
+        map: [0x00, 0x00, 0x00, 0x01],
+        value: 0x80,
+        taken: false,
+    },
+    Value {
+        register: 0x00,
+        map: [0x00, 0x00, 0x00, 0x01],
+        value: 0xFF,
+        taken: false,
+    },
+    Value {
+        register: 0x01,
+        map: [0x00, 0x00, 0x00, 0x02],
+        value: 0x00,
+        taken: true,
+    },
+    Value {
+        register: 0x01,
+        map: [0x00, 0x00, 0x00, 0x02],
+        value: 0x01,
+        taken: true,
+    },
+    Value {
+        register: 0x01,
+        map: [0x00, 0x00, 0x00, 0x02],
+        value: 0x02,
+        taken: true,
+    },
+    Value {
+        register: 0x01,
+        map: [0x00, 0x00, 0x00, 0x02],
+        value: 0x04,
+        taken: true,
+    },
+    Value {
+        register: 0x01,
+        map: [0x00, 0x00, 0x00, 0x02],
+        value: 0x08,
+        taken: true,
+    },
+    Value {
+        register: 0x01,
+        map: [0x00, 0x00, 0x00, 0x02],
+        value: 0x10,
+        taken: true,
+    },
+    Value {
+        register: 0x01,
+        map: [0x00, 0x00, 0x00, 0x02],
+        value: 0x20,
+        taken: true,
+    },
+    Value {
+        register: 0x01,
+        map: [0x00, 0x00, 0x00, 0x02],
+        value: 0x3F,
+        taken: true,
+    },
+    Value {
+        register: 0x01,
+        map: [0x00, 0x00, 0x00, 0x02],
+        value: 0x40,
+        taken: false,
+    },
+    Value {
+        register: 0x01,
+        map: [0x00, 0x00, 0x00, 0x02],
+        value: 0x80,
+        taken: false,
+    },
+    Value {
+        register: 0x01,
+        map: [0x00, 0x00, 0x00, 0x02],
+        value: 0xFF,
+        taken: false,
+    },
+    Value {
+        register: 0x02,
+        map: [0x00, 0x00, 0x00, 0x04],
+        value: 0x00,
+        taken: true,
+    },
+    Value {
+        register: 0x02,
+        map: [0x00, 0x00, 0x00, 0x04],
+        value: 0x01,
+        taken: true,
+    },
+    Value {
+        register: 0x02,
+        map: [0x00, 0x00, 0x00, 0x04],
+        value: 0x02,
+        taken: true,
+    },
+    Value {
+        register: 0x02,
+        map: [0x00, 0x00, 0x00, 0x04],
+        value: 0x04,
+        taken: true,
+    },
+    Value {
+        register: 0x02,
+        map: [0x00, 0x00, 0x00, 0x04],
+        value: 0x08,
+        taken: true,
+    },
+    Value {
+        register: 0x02,
+        map: [0x00, 0x00, 0x00, 0x04],
+        value: 0x10,
+        taken: true,
+    },
+    Value {
+        register: 0x02,
+        map: [0x00, 0x00, 0x00, 0x04],
+        value: 0x20,
+        taken: true,
+    },
+    Value {
+        register: 0x02,
+        map: [0x00, 0x00, 0x00, 0x04],
+        value: 0x3F,
+        taken: true,
+    },
+    Value {
+        register: 0x02,
+        map: [0x00, 0x00, 0x00, 0x04],
+        value: 0x40,
+        taken: false,
+    },
+    Value {
+        register: 0x02,
+        map: [0x00, 0x00, 0x00, 0x04],
+        value: 0x80,
+        taken: false,
+    },
+    Value {
+        register: 0x02,
+        map: [0x00, 0x00, 0x00, 0x04],
+        value: 0xFF,
+        taken: false,
+    },
+    Value {
+        register: 0x03,
+        map: [0x00, 0x00, 0x00, 0x08],
+        value: 0x00,
+        taken: false,
+    },
+    Value {
+        register: 0x03,
+        map: [0x00, 0x00, 0x00, 0x08],
+        value: 0x01,
+        taken: true,
+    },
+    Value {
+        register: 0x03,
+        map: [0x00, 0x00, 0x00, 0x08],
+        value: 0x02,
+        taken: true,
+    },
+    Value {
+        register: 0x03,
+        map: [0x00, 0x00, 0x00, 0x08],
+        value: 0x03,
+        taken: true,
+    },
+    Value {
+        register: 0x03,
+        map: [0x00, 0x00, 0x00, 0x08],
+        value: 0x04,
+        taken: false,
+    },
+    Value {
+        register: 0x03,
+        map: [0x00, 0x00, 0x00, 0x08],
+        value: 0x08,
+        taken: false,
+    },
+    Value {
+        register: 0x03,
+        map: [0x00, 0x00, 0x00, 0x08],
+        value: 0x10,
+        taken: false,
+    },
+    Value {
+        register: 0x03,
+        map: [0x00, 0x00, 0x00, 0x08],
+        value: 0x20,
+        taken: false,
+    },
+    Value {
+        register: 0x03,
+        map: [0x00, 0x00, 0x00, 0x08],
+        value: 0x40,
+        taken: false,
+    },
+    Value {
+        register: 0x03,
+        map: [0x00, 0x00, 0x00, 0x08],
+        value: 0x80,
+        taken: false,
+    },
+    Value {
+        register: 0x03,
+        map: [0x00, 0x00, 0x00, 0x08],
+        value: 0xFF,
+        taken: false,
+    },
+    Value {
+        register: 0x04,
+        map: [0x00, 0x00, 0x00, 0x10],
+        value: 0x00,
+        taken: true,
+    },
+    Value {
+        register: 0x04,
+        map: [0x00, 0x00, 0x00, 0x10],
+        value: 0x01,
+        taken: true,
+    },
+    Value {
+        register: 0x04,
+        map: [0x00, 0x00, 0x00, 0x10],
+        value: 0x02,
+        taken: true,
+    },
+    Value {
+        register: 0x04,
+        map: [0x00, 0x00, 0x00, 0x10],
+        value: 0x04,
+        taken: true,
+    },
+    Value {
+        register: 0x04,
+        map: [0x00, 0x00, 0x00, 0x10],
+        value: 0x08,
+        taken: true,
+    },
+    Value {
+        register: 0x04,
+        map: [0x00, 0x00, 0x00, 0x10],
+        value: 0x10,
+        taken: true,
+    },
+    Value {
+        register: 0x04,
+        map: [0x00, 0x00, 0x00, 0x10],
+        value: 0x20,
+        taken: true,
+    },
+    Value {
+        register: 0x04,
+        map: [0x00, 0x00, 0x00, 0x10],
+        value: 0x40,
+        taken: true,
+    },
+    Value {
+        register: 0x04,
+        map: [0x00, 0x00, 0x00, 0x10],
+        value: 0x80,
+        taken: true,
+    },
+    Value {
+        register: 0x04,
+        map: [0x00, 0x00, 0x00, 0x10],
+        value: 0xFF,
+        taken: true,
+    },
+    Value {
+        register: 0x05,
+        map: [0x00, 0x00, 0x00, 0x20],
+        value: 0x00,
+        taken: true,
+    },
+    Value {
+        register: 0x05,
+        map: [0x00, 0x00, 0x00, 0x20],
+        value: 0x01,
+        taken: true,
+    },
+    Value {
+        register: 0x05,
+        map: [0x00, 0x00, 0x00, 0x20],
+        value: 0x02,
+        taken: true,
+    },
+    Value {
+        register: 0x05,
+        map: [0x00, 0x00, 0x00, 0x20],
+        value: 0x04,
+        taken: true,
+    },
+    Value {
+        register: 0x05,
+        map: [0x00, 0x00, 0x00, 0x20],
+        value: 0x08,
+        taken: true,
+    },
+    Value {
+        register: 0x05,
+        map: [0x00, 0x00, 0x00, 0x20],
+        value: 0x10,
+        taken: true,
+    },
+    Value {
+        register: 0x05,
+        map: [0x00, 0x00, 0x00, 0x20],
+        value: 0x20,
+        taken: true,
+    },
+    Value {
+        register: 0x05,
+        map: [0x00, 0x00, 0x00, 0x20],
+        value: 0x40,
+        taken: true,
+    },
+    Value {
+        register: 0x05,
+        map: [0x00, 0x00, 0x00, 0x20],
+        value: 0x7D,
+        taken: true,
+    },
+    Value {
+        register: 0x05,
+        map: [0x00, 0x00, 0x00, 0x20],
+        value: 0x7E,
+        taken: false,
+    },
+    Value {
+        register: 0x05,
+        map: [0x00, 0x00, 0x00, 0x20],
+        value: 0x80,
+        taken: false,
+    },
+    Value {
+        register: 0x05,
+        map: [0x00, 0x00, 0x00, 0x20],
+        value: 0xFF,
+        taken: false,
+    },
+    Value {
+        register: 0x06,
+        map: [0x00, 0x00, 0x00, 0x40],
+        value: 0x00,
+        taken: true,
+    },
+    Value {
+        register: 0x06,
+        map: [0x00, 0x00, 0x00, 0x40],
+        value: 0x01,
+        taken: true,
+    },
+    Value {
+        register: 0x06,
+        map: [0x00, 0x00, 0x00, 0x40],
+        value: 0x02,
+        taken: true,
+    },
+    Value {
+        register: 0x06,
+        map: [0x00, 0x00, 0x00, 0x40],
+        value: 0x04,
+        taken: true,
+    },
+    Value {
+        register: 0x06,
+        map: [0x00, 0x00, 0x00, 0x40],
+        value: 0x08,
+        taken: true,
+    },
+    Value {
+        register: 0x06,
+        map: [0x00, 0x00, 0x00, 0x40],
+        value: 0x0F,
+        taken: true,
+    },
+    Value {
+        register: 0x06,
+        map: [0x00, 0x00, 0x00, 0x40],
+        value: 0x10,
+        taken: false,
+    },
+    Value {
+        register: 0x06,
+        map: [0x00, 0x00, 0x00, 0x40],
+        value: 0x1F,
+        taken: false,
+    },
+    Value {
+        register: 0x06,
+        map: [0x00, 0x00, 0x00, 0x40],
+        value: 0x20,
+        taken: true,
+    },
+    Value {
+        register: 0x06,
+        map: [0x00, 0x00, 0x00, 0x40],
+        value: 0x27,
+        taken: true,
+    },
+    Value {
+        register: 0x06,
+        map: [0x00, 0x00, 0x00, 0x40],
+        value: 0x28,
+        taken: false,
+    },
+    Value {
+        register: 0x06,
+        map: [0x00, 0x00, 0x00, 0x40],
+        value: 0x40,
+        taken: false,
+    },
+    Value {
+        register: 0x06,
+        map: [0x00, 0x00, 0x00, 0x40],
+        value: 0x80,
+        taken: false,
+    },
+    Value {
+        register: 0x06,
+        map: [0x00, 0x00, 0x00, 0x40],
+        value: 0xFF,
+        taken: false,
+    },
+    Value {
+        register: 0x07,
+        map: [0x00, 0x00, 0x00, 0x80],
+        value: 0x00,
+        taken: true,
+    },
+    Value {
+        register: 0x07,
+        map: [0x00, 0x00, 0x00, 0x80],
+        value: 0x01,
+        taken: false,
+    },
+    Value {
+        register: 0x07,
+        map: [0x00, 0x00, 0x00, 0x80],
+        value: 0x02,
+        taken: false,
+    },
+    Value {
+        register: 0x07,
+        map: [0x00, 0x00, 0x00, 0x80],
+        value: 0x04,
+        taken: false,
+    },
+    Value {
+        register: 0x07,
+        map: [0x00, 0x00, 0x00, 0x80],
+        value: 0x08,
+        taken: false,
+    },
+    Value {
+        register: 0x07,
+        map: [0x00, 0x00, 0x00, 0x80],
+        value: 0x0F,
+        taken: false,
+    },
+    Value {
+        register: 0x07,
+        map: [0x00, 0x00, 0x00, 0x80],
+        value: 0x10,
+        taken: true,
+    },
+    Value {
+        register: 0x07,
+        map: [0x00, 0x00, 0x00, 0x80],
+        value: 0x11,
+        taken: false,
+    },
+    Value {
+        register: 0x07,
+        map: [0x00, 0x00, 0x00, 0x80],
+        value: 0x1F,
+        taken: false,
+    },
+    Value {
+        register: 0x07,
+        map: [0x00, 0x00, 0x00, 0x80],
+        value: 0x20,
+        taken: true,
+    },
+    Value {
+        register: 0x07,
+        map: [0x00, 0x00, 0x00, 0x80],
+        value: 0x21,
+        taken: false,
+    },
+    Value {
+        register: 0x07,
+        map: [0x00, 0x00, 0x00, 0x80],
+        value: 0x2F,
+        taken: false,
+    },
+    Value {
+        register: 0x07,
+        map: [0x00, 0x00, 0x00, 0x80],
+        value: 0x30,
+        taken: true,
+    },
+    Value {
+        register: 0x07,
+        map: [0x00, 0x00, 0x00, 0x80],
+        value: 0x31,
+        taken: false,
+    },
+    Value {
+        register: 0x07,
+        map: [0x00, 0x00, 0x00, 0x80],
+        value: 0x3F,
+        taken: false,
+    },
+    Value {
+        register: 0x07,
+        map: [0x00, 0x00, 0x00, 0x80],
+        value: 0x40,
+        taken: true,
+    },
+    Value {
+        register: 0x07,
+        map: [0x00, 0x00, 0x00, 0x80],
+        value: 0x41,
+        taken: false,
+    },
+    Value {
+        register: 0x07,
+        map: [0x00, 0x00, 0x00, 0x80],
+        value: 0x4F,
+        taken: false,
+    },
+    Value {
+        register: 0x07,
+        map: [0x00, 0x00, 0x00, 0x80],
+        value: 0x50,
+        taken: true,
+    },
+    Value {
+        register: 0x07,
+        map: [0x00, 0x00, 0x00, 0x80],
+        value: 0x51,
+        taken: false,
+    },
+    Value {
+        register: 0x07,
+        map: [0x00, 0x00, 0x00, 0x80],
+        value: 0x5F,
+        taken: false,
+    },
+    Value {
+        register: 0x07,
+        map: [0x00, 0x00, 0x00, 0x80],
+        value: 0x60,
+        taken: true,
+    },
+    Value {
+        register: 0x07,
+        map: [0x00, 0x00, 0x00, 0x80],
+        value: 0x61,
+        taken: false,
+    },
+    Value {
+        register: 0x07,
+        map: [0x00, 0x00, 0x00, 0x80],
+        value: 0x6F,
+        taken: false,
+    },
+    Value {
+        register: 0x07,
+        map: [0x00, 0x00, 0x00, 0x80],
+        value: 0x70,
+        taken: true,
+    },
+    Value {
+        register: 0x07,
+        map: [0x00, 0x00, 0x00, 0x80],
+        value: 0x71,
+        taken: false,
+    },
+    Value {
+        register: 0x07,
+        map: [0x00, 0x00, 0x00, 0x80],
+        value: 0x80,
+        taken: false,
+    },
+    Value {
+        register: 0x07,
+        map: [0x00, 0x00, 0x00, 0x80],
+        value: 0xFF,
+        taken: false,
+    },
+    Value {
+        register: 0x0C,
+        map: [0x00, 0x00, 0x10, 0x00],
+        value: 0x00,
+        taken: true,
+    },
+    Value {
+        register: 0x0C,
+        map: [0x00, 0x00, 0x10, 0x00],
+        value: 0x01,
+        taken: true,
+    },
+    Value {
+        register: 0x0C,
+        map: [0x00, 0x00, 0x10, 0x00],
+        value: 0x02,
+        taken: true,
+    },
+    Value {
+        register: 0x0C,
+        map: [0x00, 0x00, 0x10, 0x00],
+        value: 0x04,
+        taken: true,
+    },
+    Value {
+        register: 0x0C,
+        map: [0x00, 0x00, 0x10, 0x00],
+        value: 0x08,
+        taken: true,
+    },
+    Value {
+        register: 0x0C,
+        map: [0x00, 0x00, 0x10, 0x00],
+        value: 0x10,
+        taken: true,
+    },
+    Value {
+        register: 0x0C,
+        map: [0x00, 0x00, 0x10, 0x00],
+        value: 0x20,
+        taken: true,
+    },
+    Value {
+        register: 0x0C,
+        map: [0x00, 0x00, 0x10, 0x00],
+        value: 0x40,
+        taken: true,
+    },
+    Value {
+        register: 0x0C,
+        map: [0x00, 0x00, 0x10, 0x00],
+        value: 0x80,
+        taken: true,
+    },
+    Value {
+        register: 0x0C,
+        map: [0x00, 0x00, 0x10, 0x00],
+        value: 0xFF,
+        taken: true,
+    },
+    Value {
+        register: 0x0D,
+        map: [0x00, 0x00, 0x20, 0x00],
+        value: 0x00,
+        taken: true,
+    },
+    Value {
+        register: 0x0D,
+        map: [0x00, 0x00, 0x20, 0x00],
+        value: 0x01,
+        taken: true,
+    },
+    Value {
+        register: 0x0D,
+        map: [0x00, 0x00, 0x20, 0x00],
+        value: 0x02,
+        taken: true,
+    },
+    Value {
+        register: 0x0D,
+        map: [0x00, 0x00, 0x20, 0x00],
+        value: 0x04,
+        taken: true,
+    },
+    Value {
+        register: 0x0D,
+        map: [0x00, 0x00, 0x20, 0x00],
+        value: 0x08,
+        taken: true,
+    },
+    Value {
+        register: 0x0D,
+        map: [0x00, 0x00, 0x20, 0x00],
+        value: 0x10,
+        taken: true,
+    },
+    Value {
+        register: 0x0D,
+        map: [0x00, 0x00, 0x20, 0x00],
+        value: 0x20,
+        taken: true,
+    },
+    Value {
+        register: 0x0D,
+        map: [0x00, 0x00, 0x20, 0x00],
+        value: 0x40,
+        taken: true,
+    },
+    Value {
+        register: 0x0D,
+        map: [0x00, 0x00, 0x20, 0x00],
+        value: 0x80,
+        taken: true,
+    },
+    Value {
+        register: 0x0D,
+        map: [0x00, 0x00, 0x20, 0x00],
+        value: 0xFF,
+        taken: true,
+    },
+    Value {
+        register: 0x0E,
+        map: [0x00, 0x00, 0x40, 0x00],
+        value: 0x00,
+        taken: true,
+    },
+    Value {
+        register: 0x0E,
+        map: [0x00, 0x00, 0x40, 0x00],
+        value: 0x01,
+        taken: true,
+    },
+    Value {
+        register: 0x0E,
+        map: [0x00, 0x00, 0x40, 0x00],
+        value: 0x02,
+        taken: true,
+    },
+    Value {
+        register: 0x0E,
+        map: [0x00, 0x00, 0x40, 0x00],
+        value: 0x04,
+        taken: true,
+    },
+    Value {
+        register: 0x0E,
+        map: [0x00, 0x00, 0x40, 0x00],
+        value: 0x08,
+        taken: true,
+    },
+    Value {
+        register: 0x0E,
+        map: [0x00, 0x00, 0x40, 0x00],
+        value: 0x10,
+        taken: true,
+    },
+    Value {
+        register: 0x0E,
+        map: [0x00, 0x00, 0x40, 0x00],
+        value: 0x20,
+        taken: true,
+    },
+    Value {
+        register: 0x0E,
+        map: [0x00, 0x00, 0x40, 0x00],
+        value: 0x40,
+        taken: true,
+    },
+    Value {
+        register: 0x0E,
+        map: [0x00, 0x00, 0x40, 0x00],
+        value: 0x80,
+        taken: true,
+    },
+    Value {
+        register: 0x0E,
+        map: [0x00, 0x00, 0x40, 0x00],
+        value: 0xFF,
+        taken: true,
+    },
+    Value {
+        register: 0x0F,
+        map: [0x00, 0x00, 0x80, 0x00],
+        value: 0x00,
+        taken: true,
+    },
+    Value {
+        register: 0x0F,
+        map: [0x00, 0x00, 0x80, 0x00],
+        value: 0x01,
+        taken: true,
+    },
+    Value {
+        register: 0x0F,
+        map: [0x00, 0x00, 0x80, 0x00],
+        value: 0x02,
+        taken: true,
+    },
+    Value {
+        register: 0x0F,
+        map: [0x00, 0x00, 0x80, 0x00],
+        value: 0x04,
+        taken: true,
+    },
+    Value {
+        register: 0x0F,
+        map: [0x00, 0x00, 0x80, 0x00],
+        value: 0x08,
+        taken: true,
+    },
+    Value {
+        register: 0x0F,
+        map: [0x00, 0x00, 0x80, 0x00],
+        value: 0x10,
+        taken: true,
+    },
+    Value {
+        register: 0x0F,
+        map: [0x00, 0x00, 0x80, 0x00],
+        value: 0x20,
+        taken: true,
+    },
+    Value {
+        register: 0x0F,
+        map: [0x00, 0x00, 0x80, 0x00],
+        value: 0x40,
+        taken: true,
+    },
+    Value {
+        register: 0x0F,
+        map: [0x00, 0x00, 0x80, 0x00],
+        value: 0x80,
+        taken: true,
+    },
+    Value {
+        register: 0x0F,
+        map: [0x00, 0x00, 0x80, 0x00],
+        value: 0xFF,
+        taken: true,
+    },
+    Value {
+        register: 0x11,
+        map: [0x00, 0x02, 0x00, 0x00],
+        value: 0x00,
+        taken: true,
+    },
+    Value {
+        register: 0x11,
+        map: [0x00, 0x02, 0x00, 0x00],
+        value: 0x01,
+        taken: true,
+    },
+    Value {
+        register: 0x11,
+        map: [0x00, 0x02, 0x00, 0x00],
+        value: 0x02,
+        taken: true,
+    },
+    Value {
+        register: 0x11,
+        map: [0x00, 0x02, 0x00, 0x00],
+        value: 0x04,
+        taken: true,
+    },
+    Value {
+        register: 0x11,
+        map: [0x00, 0x02, 0x00, 0x00],
+        value: 0x08,
+        taken: true,
+    },
+    Value {
+        register: 0x11,
+        map: [0x00, 0x02, 0x00, 0x00],
+        value: 0x10,
+        taken: true,
+    },
+    Value {
+        register: 0x11,
+        map: [0x00, 0x02, 0x00, 0x00],
+        value: 0x20,
+        taken: true,
+    },
+    Value {
+        register: 0x11,
+        map: [0x00, 0x02, 0x00, 0x00],
+        value: 0x21,
+        taken: false,
+    },
+    Value {
+        register: 0x11,
+        map: [0x00, 0x02, 0x00, 0x00],
+        value: 0x40,
+        taken: false,
+    },
+    Value {
+        register: 0x11,
+        map: [0x00, 0x02, 0x00, 0x00],
+        value: 0x80,
+        taken: false,
+    },
+    Value {
+        register: 0x11,
+        map: [0x00, 0x02, 0x00, 0x00],
+        value: 0xFF,
+        taken: false,
+    },
+    Value {
+        register: 0x12,
+        map: [0x00, 0x04, 0x00, 0x00],
+        value: 0x00,
+        taken: true,
+    },
+    Value {
+        register: 0x12,
+        map: [0x00, 0x04, 0x00, 0x00],
+        value: 0x01,
+        taken: true,
+    },
+    Value {
+        register: 0x12,
+        map: [0x00, 0x04, 0x00, 0x00],
+        value: 0x02,
+        taken: true,
+    },
+    Value {
+        register: 0x12,
+        map: [0x00, 0x04, 0x00, 0x00],
+        value: 0x04,
+        taken: true,
+    },
+    Value {
+        register: 0x12,
+        map: [0x00, 0x04, 0x00, 0x00],
+        value: 0x08,
+        taken: true,
+    },
+    Value {
+        register: 0x12,
+        map: [0x00, 0x04, 0x00, 0x00],
+        value: 0x10,
+        taken: true,
+    },
+    Value {
+        register: 0x12,
+        map: [0x00, 0x04, 0x00, 0x00],
+        value: 0x20,
+        taken: true,
+    },
+    Value {
+        register: 0x12,
+        map: [0x00, 0x04, 0x00, 0x00],
+        value: 0x21,
+        taken: false,
+    },
+    Value {
+        register: 0x12,
+        map: [0x00, 0x04, 0x00, 0x00],
+        value: 0x40,
+        taken: false,
+    },
+    Value {
+        register: 0x12,
+        map: [0x00, 0x04, 0x00, 0x00],
+        value: 0x80,
+        taken: false,
+    },
+    Value {
+        register: 0x12,
+        map: [0x00, 0x04, 0x00, 0x00],
+        value: 0xFF,
+        taken: false,
+    },
+    Value {
+        register: 0x13,
+        map: [0x00, 0x08, 0x00, 0x00],
+        value: 0x00,
+        taken: true,
+    },
+    Value {
+        register: 0x13,
+        map: [0x00, 0x08, 0x00, 0x00],
+        value: 0x01,
+        taken: true,
+    },
+    Value {
+        register: 0x13,
+        map: [0x00, 0x08, 0x00, 0x00],
+        value: 0x02,
+        taken: true,
+    },
+    Value {
+        register: 0x13,
+        map: [0x00, 0x08, 0x00, 0x00],
+        value: 0x04,
+        taken: true,
+    },
+    Value {
+        register: 0x13,
+        map: [0x00, 0x08, 0x00, 0x00],
+        value: 0x08,
+        taken: true,
+    },
+    Value {
+        register: 0x13,
+        map: [0x00, 0x08, 0x00, 0x00],
+        value: 0x10,
+        taken: true,
+    },
+    Value {
+        register: 0x13,
+        map: [0x00, 0x08, 0x00, 0x00],
+        value: 0x20,
+        taken: true,
+    },
+    Value {
+        register: 0x13,
+        map: [0x00, 0x08, 0x00, 0x00],
+        value: 0x21,
+        taken: false,
+    },
+    Value {
+        register: 0x13,
+        map: [0x00, 0x08, 0x00, 0x00],
+        value: 0x40,
+        taken: false,
+    },
+    Value {
+        register: 0x13,
+        map: [0x00, 0x08, 0x00, 0x00],
+        value: 0x80,
+        taken: false,
+    },
+    Value {
+        register: 0x13,
+        map: [0x00, 0x08, 0x00, 0x00],
+        value: 0xFF,
+        taken: false,
+    },
+    Value {
+        register: 0x14,
+        map: [0x00, 0x10, 0x00, 0x00],
+        value: 0x00,
+        taken: true,
+    },
+    Value {
+        register: 0x14,
+        map: [0x00, 0x10, 0x00, 0x00],
+        value: 0x01,
+        taken: true,
+    },
+    Value {
+        register: 0x14,
+        map: [0x00, 0x10, 0x00, 0x00],
+        value: 0x02,
+        taken: true,
+    },
+    Value {
+        register: 0x14,
+        map: [0x00, 0x10, 0x00, 0x00],
+        value: 0x04,
+        taken: true,
+    },
+    Value {
+        register: 0x14,
+        map: [0x00, 0x10, 0x00, 0x00],
+        value: 0x08,
+        taken: true,
+    },
+    Value {
+        register: 0x14,
+        map: [0x00, 0x10, 0x00, 0x00],
+        value: 0x10,
+        taken: true,
+    },
+    Value {
+        register: 0x14,
+        map: [0x00, 0x10, 0x00, 0x00],
+        value: 0x20,
+        taken: true,
+    },
+    Value {
+        register: 0x14,
+        map: [0x00, 0x10, 0x00, 0x00],
+        value: 0x21,
+        taken: false,
+    },
+    Value {
+        register: 0x14,
+        map: [0x00, 0x10, 0x00, 0x00],
+        value: 0x40,
+        taken: false,
+    },
+    Value {
+        register: 0x14,
+        map: [0x00, 0x10, 0x00, 0x00],
+        value: 0x80,
+        taken: false,
+    },
+    Value {
+        register: 0x14,
+        map: [0x00, 0x10, 0x00, 0x00],
+        value: 0xFF,
+        taken: false,
+    },
+    Value {
+        register: 0x15,
+        map: [0x00, 0x20, 0x00, 0x00],
+        value: 0x00,
+        taken: true,
+    },
+    Value {
+        register: 0x15,
+        map: [0x00, 0x20, 0x00, 0x00],
+        value: 0x01,
+        taken: true,
+    },
+    Value {
+        register: 0x15,
+        map: [0x00, 0x20, 0x00, 0x00],
+        value: 0x02,
+        taken: true,
+    },
+    Value {
+        register: 0x15,
+        map: [0x00, 0x20, 0x00, 0x00],
+        value: 0x04,
+        taken: true,
+    },
+    Value {
+        register: 0x15,
+        map: [0x00, 0x20, 0x00, 0x00],
+        value: 0x08,
+        taken: true,
+    },
+    Value {
+        register: 0x15,
+        map: [0x00, 0x20, 0x00, 0x00],
+        value: 0x10,
+        taken: true,
+    },
+    Value {
+        register: 0x15,
+        map: [0x00, 0x20, 0x00, 0x00],
+        value: 0x20,
+        taken: true,
+    },
+    Value {
+        register: 0x15,
+        map: [0x00, 0x20, 0x00, 0x00],
+        value: 0x21,
+        taken: false,
+    },
+    Value {
+        register: 0x15,
+        map: [0x00, 0x20, 0x00, 0x00],
+        value: 0x40,
+        taken: false,
+    },
+    Value {
+        register: 0x15,
+        map: [0x00, 0x20, 0x00, 0x00],
+        value: 0x80,
+        taken: false,
+    },
+    Value {
+        register: 0x15,
+        map: [0x00, 0x20, 0x00, 0x00],
+        value: 0xFF,
+        taken: false,
+    },
+    Value {
+        register: 0x16,
+        map: [0x00, 0x40, 0x00, 0x00],
+        value: 0x00,
+        taken: true,
+    },
+    Value {
+        register: 0x16,
+        map: [0x00, 0x40, 0x00, 0x00],
+        value: 0x01,
+        taken: true,
+    },
+    Value {
+        register: 0x16,
+        map: [0x00, 0x40, 0x00, 0x00],
+        value: 0x02,
+        taken: true,
+    },
+    Value {
+        register: 0x16,
+        map: [0x00, 0x40, 0x00, 0x00],
+        value: 0x04,
+        taken: true,
+    },
+    Value {
+        register: 0x16,
+        map: [0x00, 0x40, 0x00, 0x00],
+        value: 0x08,
+        taken: true,
+    },
+    Value {
+        register: 0x16,
+        map: [0x00, 0x40, 0x00, 0x00],
+        value: 0x10,
+        taken: true,
+    },
+    Value {
+        register: 0x16,
+        map: [0x00, 0x40, 0x00, 0x00],
+        value: 0x20,
+        taken: true,
+    },
+    Value {
+        register: 0x16,
+        map: [0x00, 0x40, 0x00, 0x00],
+        value: 0x21,
+        taken: false,
+    },
+    Value {
+        register: 0x16,
+        map: [0x00, 0x40, 0x00, 0x00],
+        value: 0x40,
+        taken: false,
+    },
+    Value {
+        register: 0x16,
+        map: [0x00, 0x40, 0x00, 0x00],
+        value: 0x80,
+        taken: false,
+    },
+    Value {
+        register: 0x16,
+        map: [0x00, 0x40, 0x00, 0x00],
+        value: 0xFF,
+        taken: false,
+    },
+];
+
+// Values of registers of five bytes.
+pub static WIDE_VALUES: [Wide; 9] = [
+    Wide {
+        register: 0x0A,
+        bytes: [0x00, 0x00, 0x00, 0x00, 0x00],
+    },
+    Wide {
+        register: 0x0A,
+        bytes: [0xFF, 0xFF, 0xFF, 0xFF, 0xFF],
+    },
+    Wide {
+        register: 0x0A,
+        bytes: [0x51, 0x52, 0x53, 0x54, 0x55],
+    },
+    Wide {
+        register: 0x0B,
+        bytes: [0x00, 0x00, 0x00, 0x00, 0x00],
+    },
+    Wide {
+        register: 0x0B,
+        bytes: [0xFF, 0xFF, 0xFF, 0xFF, 0xFF],
+    },
+    Wide {
+        register: 0x0B,
+        bytes: [0x51, 0x52, 0x53, 0x54, 0x55],
+    },
+    Wide {
+        register: 0x10,
+        bytes: [0x00, 0x00, 0x00, 0x00, 0x00],
+    },
+    Wide {
+        register: 0x10,
+        bytes: [0xFF, 0xFF, 0xFF, 0xFF, 0xFF],
+    },
+    Wide {
+        register: 0x10,
+        bytes: [0x51, 0x52, 0x53, 0x54, 0x55],
+    },
+];
+
+// Profiles of which the map and the length are right.
+pub static PROFILES: [Profile; 5] = [
+    Profile {
+        bytes: &[0x00, 0x00, 0x00, 0x00],
+        count: 0,
+        fields: &[],
+        refused: None,
+    },
+    Profile {
+        bytes: &[0x00, 0x00, 0x00, 0x30, 0x2F, 0x4C],
+        count: 2,
+        fields: &[
+            Field {
+                register: 0x04,
+                bytes: &[0x2F],
+            },
+            Field {
+                register: 0x05,
+                bytes: &[0x4C],
+            },
+        ],
+        refused: None,
+    },
+    Profile {
+        bytes: &[
+            0x00,
+            0x7F,
+            0xFC,
+            0x7F,
+            0x80,
+            0x86,
+            0x8C,
+            0x92,
+            0x98,
+            0x9E,
+            0xA4,
+            0xAA,
+            0xAB,
+            0xAC,
+            0xAD,
+            0xAE,
+            0xB0,
+            0xB1,
+            0xB2,
+            0xB3,
+            0xB4,
+            0xB6,
+            0xBC,
+            0xC2,
+            0xC8,
+            0xCE,
+            0xCF,
+            0xD0,
+            0xD1,
+            0xD2,
+            0xD4,
+            0xDA,
+            0xE0,
+            0xE6,
+            0xEC,
+            0xF2,
+        ],
+        count: 20,
+        fields: &[
+            Field {
+                register: 0x00,
+                bytes: &[0x80],
+            },
+            Field {
+                register: 0x01,
+                bytes: &[0x86],
+            },
+            Field {
+                register: 0x02,
+                bytes: &[0x8C],
+            },
+            Field {
+                register: 0x03,
+                bytes: &[0x92],
+            },
+            Field {
+                register: 0x04,
+                bytes: &[0x98],
+            },
+            Field {
+                register: 0x05,
+                bytes: &[0x9E],
+            },
+            Field {
+                register: 0x06,
+                bytes: &[0xA4],
+            },
+            Field {
+                register: 0x0A,
+                bytes: &[0xAA, 0xAB, 0xAC, 0xAD, 0xAE],
+            },
+            Field {
+                register: 0x0B,
+                bytes: &[0xB0, 0xB1, 0xB2, 0xB3, 0xB4],
+            },
+            Field {
+                register: 0x0C,
+                bytes: &[0xB6],
+            },
+            Field {
+                register: 0x0D,
+                bytes: &[0xBC],
+            },
+            Field {
+                register: 0x0E,
+                bytes: &[0xC2],
+            },
+            Field {
+                register: 0x0F,
+                bytes: &[0xC8],
+            },
+            Field {
+                register: 0x10,
+                bytes: &[0xCE, 0xCF, 0xD0, 0xD1, 0xD2],
+            },
+            Field {
+                register: 0x11,
+                bytes: &[0xD4],
+            },
+            Field {
+                register: 0x12,
+                bytes: &[0xDA],
+            },
+            Field {
+                register: 0x13,
+                bytes: &[0xE0],
+            },
+            Field {
+                register: 0x14,
+                bytes: &[0xE6],
+            },
+            Field {
+                register: 0x15,
+                bytes: &[0xEC],
+            },
+            Field {
+                register: 0x16,
+                bytes: &[0xF2],
+            },
+        ],
+        refused: Some(0x00),
+    },
+    Profile {
+        bytes: &[
+            0x00,
+            0x41,
+            0x28,
+            0x08,
+            0x01,
+            0x06,
+            0x07,
+            0x08,
+            0x09,
+            0x0A,
+            0x22,
+            0x0B,
+            0x0C,
+            0x0D,
+            0x0E,
+            0x0F,
+            0x1B,
+        ],
+        count: 5,
+        fields: &[
+            Field {
+                register: 0x03,
+                bytes: &[0x01],
+            },
+            Field {
+                register: 0x0B,
+                bytes: &[0x06, 0x07, 0x08, 0x09, 0x0A],
+            },
+            Field {
+                register: 0x0D,
+                bytes: &[0x22],
+            },
+            Field {
+                register: 0x10,
+                bytes: &[0x0B, 0x0C, 0x0D, 0x0E, 0x0F],
+            },
+            Field {
+                register: 0x16,
+                bytes: &[0x1B],
+            },
+        ],
+        refused: None,
+    },
+    Profile {
+        bytes: &[0x00, 0x00, 0x00, 0x01, 0x0B],
+        count: 1,
+        fields: &[Field {
+            register: 0x00,
+            bytes: &[0x0B],
+        }],
+        refused: None,
+    },
+];
+
+// Profiles of which the map or the length is wrong.
+pub static WRONG_PROFILES: [&[u8]; 34] = [
+    &[],
+    &[0x00, 0x00, 0x00],
+    &[0x00, 0x00, 0x00, 0x00, 0x00],
+    &[0x00, 0x00, 0x00, 0x30],
+    &[0x00, 0x00, 0x00, 0x30, 0x2F],
+    &[0x00, 0x00, 0x00, 0x30, 0x2F, 0x4C, 0x00],
+    &[0x00, 0x00, 0x04, 0x00, 0x00, 0x00, 0x00, 0x00],
+    &[0x00, 0x00, 0x04, 0x00, 0x00, 0x00, 0x00, 0x00, 0x00, 0x00],
+    &[
+        0x00,
+        0x7F,
+        0xFC,
+        0x7F,
+        0x7D,
+        0x2A,
+        0x15,
+        0x01,
+        0x5F,
+        0x7D,
+        0x27,
+        0x01,
+        0x02,
+        0x03,
+        0x04,
+        0x05,
+        0x06,
+        0x07,
+        0x08,
+        0x09,
+        0x0A,
+        0x21,
+        0x22,
+        0x23,
+        0x24,
+        0x0B,
+        0x0C,
+        0x0D,
+        0x0E,
+        0x0F,
+        0x20,
+        0x1F,
+        0x1E,
+        0x1D,
+        0x1C,
+    ],
+    &[
+        0x00,
+        0x7F,
+        0xFC,
+        0x7F,
+        0x7D,
+        0x2A,
+        0x15,
+        0x01,
+        0x5F,
+        0x7D,
+        0x27,
+        0x01,
+        0x02,
+        0x03,
+        0x04,
+        0x05,
+        0x06,
+        0x07,
+        0x08,
+        0x09,
+        0x0A,
+        0x21,
+        0x22,
+        0x23,
+        0x24,
+        0x0B,
+        0x0C,
+        0x0D,
+        0x0E,
+        0x0F,
+        0x20,
+        0x1F,
+        0x1E,
+        0x1D,
+        0x1C,
+        0x1B,
+        0x00,
+    ],
+    &[0x00, 0x00, 0x00, 0x80],
+    &[0x00, 0x00, 0x00, 0x80, 0x00],
+    &[0x00, 0x00, 0x01, 0x00],
+    &[0x00, 0x00, 0x01, 0x00, 0x00],
+    &[0x00, 0x00, 0x02, 0x00],
+    &[0x00, 0x00, 0x02, 0x00, 0x00],
+    &[0x00, 0x80, 0x00, 0x00],
+    &[0x00, 0x80, 0x00, 0x00, 0x00],
+    &[0x01, 0x00, 0x00, 0x00],
+    &[0x01, 0x00, 0x00, 0x00, 0x00],
+    &[0x02, 0x00, 0x00, 0x00],
+    &[0x02, 0x00, 0x00, 0x00, 0x00],
+    &[0x04, 0x00, 0x00, 0x00],
+    &[0x04, 0x00, 0x00, 0x00, 0x00],
+    &[0x08, 0x00, 0x00, 0x00],
+    &[0x08, 0x00, 0x00, 0x00, 0x00],
+    &[0x10, 0x00, 0x00, 0x00],
+    &[0x10, 0x00, 0x00, 0x00, 0x00],
+    &[0x20, 0x00, 0x00, 0x00],
+    &[0x20, 0x00, 0x00, 0x00, 0x00],
+    &[0x40, 0x00, 0x00, 0x00],
+    &[0x40, 0x00, 0x00, 0x00, 0x00],
+    &[0x80, 0x00, 0x00, 0x00],
+    &[0x80, 0x00, 0x00, 0x00, 0x00],
+];
+
+// Units for the check call, and the lowest register with a fault.
+pub static SETUPS: [Setup; 88] = [
+    // sound sender
+    Setup {
+        config_crc8: 0x08,
+        config_crc16: 0x0C,
+        en_aa: 0x3F,
+        en_rxaddr: 0x03,
+        setup_aw: 0x03,
+        rx_addr_p0: [0xE7, 0xE7, 0xE7, 0xE7, 0xE7],
+        rx_addr_p1: [0xC2, 0xC2, 0xC2, 0xC2, 0xC2],
+        low_bytes: [0xC3, 0xC4, 0xC5, 0xC6],
+        tx_addr: [0xE7, 0xE7, 0xE7, 0xE7, 0xE7],
+        lengths: [0x00, 0x00, 0x00, 0x00, 0x00, 0x00],
+        fault: None,
+    },
+    // receiver, sound
+    Setup {
+        config_crc8: 0x09,
+        config_crc16: 0x0D,
+        en_aa: 0x3F,
+        en_rxaddr: 0x03,
+        setup_aw: 0x03,
+        rx_addr_p0: [0xE7, 0xE7, 0xE7, 0xE7, 0xE7],
+        rx_addr_p1: [0xC2, 0xC2, 0xC2, 0xC2, 0xC2],
+        low_bytes: [0xC3, 0xC4, 0xC5, 0xC6],
+        tx_addr: [0xE7, 0xE7, 0xE7, 0xE7, 0xE7],
+        lengths: [0x01, 0x01, 0x00, 0x00, 0x00, 0x00],
+        fault: None,
+    },
+    // receiver, sound, all pipes
+    Setup {
+        config_crc8: 0x09,
+        config_crc16: 0x0D,
+        en_aa: 0x3F,
+        en_rxaddr: 0x3F,
+        setup_aw: 0x03,
+        rx_addr_p0: [0xE7, 0xE7, 0xE7, 0xE7, 0xE7],
+        rx_addr_p1: [0xC2, 0xC2, 0xC2, 0xC2, 0xC2],
+        low_bytes: [0xC3, 0xC4, 0xC5, 0xC6],
+        tx_addr: [0xE7, 0xE7, 0xE7, 0xE7, 0xE7],
+        lengths: [0x01, 0x01, 0x01, 0x01, 0x01, 0x01],
+        fault: None,
+    },
+    // sender, EN_CRC is clear
+    Setup {
+        config_crc8: 0x00,
+        config_crc16: 0x04,
+        en_aa: 0x3F,
+        en_rxaddr: 0x03,
+        setup_aw: 0x03,
+        rx_addr_p0: [0xE7, 0xE7, 0xE7, 0xE7, 0xE7],
+        rx_addr_p1: [0xC2, 0xC2, 0xC2, 0xC2, 0xC2],
+        low_bytes: [0xC3, 0xC4, 0xC5, 0xC6],
+        tx_addr: [0xE7, 0xE7, 0xE7, 0xE7, 0xE7],
+        lengths: [0x00, 0x00, 0x00, 0x00, 0x00, 0x00],
+        fault: Some(0x00),
+    },
+    // receiver, EN_CRC is clear
+    Setup {
+        config_crc8: 0x01,
+        config_crc16: 0x05,
+        en_aa: 0x3F,
+        en_rxaddr: 0x03,
+        setup_aw: 0x03,
+        rx_addr_p0: [0xE7, 0xE7, 0xE7, 0xE7, 0xE7],
+        rx_addr_p1: [0xC2, 0xC2, 0xC2, 0xC2, 0xC2],
+        low_bytes: [0xC3, 0xC4, 0xC5, 0xC6],
+        tx_addr: [0xE7, 0xE7, 0xE7, 0xE7, 0xE7],
+        lengths: [0x01, 0x01, 0x00, 0x00, 0x00, 0x00],
+        fault: Some(0x00),
+    },
+    // sender, PWR_UP is set
+    Setup {
+        config_crc8: 0x0A,
+        config_crc16: 0x0E,
+        en_aa: 0x3F,
+        en_rxaddr: 0x03,
+        setup_aw: 0x03,
+        rx_addr_p0: [0xE7, 0xE7, 0xE7, 0xE7, 0xE7],
+        rx_addr_p1: [0xC2, 0xC2, 0xC2, 0xC2, 0xC2],
+        low_bytes: [0xC3, 0xC4, 0xC5, 0xC6],
+        tx_addr: [0xE7, 0xE7, 0xE7, 0xE7, 0xE7],
+        lengths: [0x00, 0x00, 0x00, 0x00, 0x00, 0x00],
+        fault: Some(0x00),
+    },
+    // receiver, PWR_UP is set
+    Setup {
+        config_crc8: 0x0B,
+        config_crc16: 0x0F,
+        en_aa: 0x3F,
+        en_rxaddr: 0x03,
+        setup_aw: 0x03,
+        rx_addr_p0: [0xE7, 0xE7, 0xE7, 0xE7, 0xE7],
+        rx_addr_p1: [0xC2, 0xC2, 0xC2, 0xC2, 0xC2],
+        low_bytes: [0xC3, 0xC4, 0xC5, 0xC6],
+        tx_addr: [0xE7, 0xE7, 0xE7, 0xE7, 0xE7],
+        lengths: [0x01, 0x01, 0x00, 0x00, 0x00, 0x00],
+        fault: Some(0x00),
+    },
+    // sender, CRCO is unlike
+    Setup {
+        config_crc8: 0x0C,
+        config_crc16: 0x08,
+        en_aa: 0x3F,
+        en_rxaddr: 0x03,
+        setup_aw: 0x03,
+        rx_addr_p0: [0xE7, 0xE7, 0xE7, 0xE7, 0xE7],
+        rx_addr_p1: [0xC2, 0xC2, 0xC2, 0xC2, 0xC2],
+        low_bytes: [0xC3, 0xC4, 0xC5, 0xC6],
+        tx_addr: [0xE7, 0xE7, 0xE7, 0xE7, 0xE7],
+        lengths: [0x00, 0x00, 0x00, 0x00, 0x00, 0x00],
+        fault: Some(0x00),
+    },
+    // receiver, CRCO is unlike
+    Setup {
+        config_crc8: 0x0D,
+        config_crc16: 0x09,
+        en_aa: 0x3F,
+        en_rxaddr: 0x03,
+        setup_aw: 0x03,
+        rx_addr_p0: [0xE7, 0xE7, 0xE7, 0xE7, 0xE7],
+        rx_addr_p1: [0xC2, 0xC2, 0xC2, 0xC2, 0xC2],
+        low_bytes: [0xC3, 0xC4, 0xC5, 0xC6],
+        tx_addr: [0xE7, 0xE7, 0xE7, 0xE7, 0xE7],
+        lengths: [0x01, 0x01, 0x00, 0x00, 0x00, 0x00],
+        fault: Some(0x00),
+    },
+    // sender, all interrupts masked
+    Setup {
+        config_crc8: 0x78,
+        config_crc16: 0x7C,
+        en_aa: 0x3F,
+        en_rxaddr: 0x03,
+        setup_aw: 0x03,
+        rx_addr_p0: [0xE7, 0xE7, 0xE7, 0xE7, 0xE7],
+        rx_addr_p1: [0xC2, 0xC2, 0xC2, 0xC2, 0xC2],
+        low_bytes: [0xC3, 0xC4, 0xC5, 0xC6],
+        tx_addr: [0xE7, 0xE7, 0xE7, 0xE7, 0xE7],
+        lengths: [0x00, 0x00, 0x00, 0x00, 0x00, 0x00],
+        fault: None,
+    },
+    // receiver, enabled pipe 0 lacks EN_AA
+    Setup {
+        config_crc8: 0x09,
+        config_crc16: 0x0D,
+        en_aa: 0x3E,
+        en_rxaddr: 0x01,
+        setup_aw: 0x03,
+        rx_addr_p0: [0xE7, 0xE7, 0xE7, 0xE7, 0xE7],
+        rx_addr_p1: [0xC2, 0xC2, 0xC2, 0xC2, 0xC2],
+        low_bytes: [0xC3, 0xC4, 0xC5, 0xC6],
+        tx_addr: [0xE7, 0xE7, 0xE7, 0xE7, 0xE7],
+        lengths: [0x01, 0x00, 0x00, 0x00, 0x00, 0x00],
+        fault: Some(0x01),
+    },
+    // receiver, enabled pipe 0 has payload length 0
+    Setup {
+        config_crc8: 0x09,
+        config_crc16: 0x0D,
+        en_aa: 0x3F,
+        en_rxaddr: 0x01,
+        setup_aw: 0x03,
+        rx_addr_p0: [0xE7, 0xE7, 0xE7, 0xE7, 0xE7],
+        rx_addr_p1: [0xC2, 0xC2, 0xC2, 0xC2, 0xC2],
+        low_bytes: [0xC3, 0xC4, 0xC5, 0xC6],
+        tx_addr: [0xE7, 0xE7, 0xE7, 0xE7, 0xE7],
+        lengths: [0x00, 0x00, 0x00, 0x00, 0x00, 0x00],
+        fault: Some(0x11),
+    },
+    // receiver, pipe 0 lacks EN_AA and a length, and is not enabled
+    Setup {
+        config_crc8: 0x09,
+        config_crc16: 0x0D,
+        en_aa: 0x3E,
+        en_rxaddr: 0x3E,
+        setup_aw: 0x03,
+        rx_addr_p0: [0xE7, 0xE7, 0xE7, 0xE7, 0xE7],
+        rx_addr_p1: [0xC2, 0xC2, 0xC2, 0xC2, 0xC2],
+        low_bytes: [0xC3, 0xC4, 0xC5, 0xC6],
+        tx_addr: [0xE7, 0xE7, 0xE7, 0xE7, 0xE7],
+        lengths: [0x00, 0x01, 0x01, 0x01, 0x01, 0x01],
+        fault: None,
+    },
+    // receiver, enabled pipe 1 lacks EN_AA
+    Setup {
+        config_crc8: 0x09,
+        config_crc16: 0x0D,
+        en_aa: 0x3D,
+        en_rxaddr: 0x02,
+        setup_aw: 0x03,
+        rx_addr_p0: [0xE7, 0xE7, 0xE7, 0xE7, 0xE7],
+        rx_addr_p1: [0xC2, 0xC2, 0xC2, 0xC2, 0xC2],
+        low_bytes: [0xC3, 0xC4, 0xC5, 0xC6],
+        tx_addr: [0xE7, 0xE7, 0xE7, 0xE7, 0xE7],
+        lengths: [0x00, 0x01, 0x00, 0x00, 0x00, 0x00],
+        fault: Some(0x01),
+    },
+    // receiver, enabled pipe 1 has payload length 0
+    Setup {
+        config_crc8: 0x09,
+        config_crc16: 0x0D,
+        en_aa: 0x3F,
+        en_rxaddr: 0x02,
+        setup_aw: 0x03,
+        rx_addr_p0: [0xE7, 0xE7, 0xE7, 0xE7, 0xE7],
+        rx_addr_p1: [0xC2, 0xC2, 0xC2, 0xC2, 0xC2],
+        low_bytes: [0xC3, 0xC4, 0xC5, 0xC6],
+        tx_addr: [0xE7, 0xE7, 0xE7, 0xE7, 0xE7],
+        lengths: [0x00, 0x00, 0x00, 0x00, 0x00, 0x00],
+        fault: Some(0x12),
+    },
+    // receiver, pipe 1 lacks EN_AA and a length, and is not enabled
+    Setup {
+        config_crc8: 0x09,
+        config_crc16: 0x0D,
+        en_aa: 0x3D,
+        en_rxaddr: 0x3D,
+        setup_aw: 0x03,
+        rx_addr_p0: [0xE7, 0xE7, 0xE7, 0xE7, 0xE7],
+        rx_addr_p1: [0xC2, 0xC2, 0xC2, 0xC2, 0xC2],
+        low_bytes: [0xC3, 0xC4, 0xC5, 0xC6],
+        tx_addr: [0xE7, 0xE7, 0xE7, 0xE7, 0xE7],
+        lengths: [0x01, 0x00, 0x01, 0x01, 0x01, 0x01],
+        fault: None,
+    },
+    // receiver, enabled pipe 2 lacks EN_AA
+    Setup {
+        config_crc8: 0x09,
+        config_crc16: 0x0D,
+        en_aa: 0x3B,
+        en_rxaddr: 0x04,
+        setup_aw: 0x03,
+        rx_addr_p0: [0xE7, 0xE7, 0xE7, 0xE7, 0xE7],
+        rx_addr_p1: [0xC2, 0xC2, 0xC2, 0xC2, 0xC2],
+        low_bytes: [0xC3, 0xC4, 0xC5, 0xC6],
+        tx_addr: [0xE7, 0xE7, 0xE7, 0xE7, 0xE7],
+        lengths: [0x00, 0x00, 0x01, 0x00, 0x00, 0x00],
+        fault: Some(0x01),
+    },
+    // receiver, enabled pipe 2 has payload length 0
+    Setup {
+        config_crc8: 0x09,
+        config_crc16: 0x0D,
+        en_aa: 0x3F,
+        en_rxaddr: 0x04,
+        setup_aw: 0x03,
+        rx_addr_p0: [0xE7, 0xE7, 0xE7, 0xE7, 0xE7],
+        rx_addr_p1: [0xC2, 0xC2, 0xC2, 0xC2, 0xC2],
+        low_bytes: [0xC3, 0xC4, 0xC5, 0xC6],
+        tx_addr: [0xE7, 0xE7, 0xE7, 0xE7, 0xE7],
+        lengths: [0x00, 0x00, 0x00, 0x00, 0x00, 0x00],
+        fault: Some(0x13),
+    },
+    // receiver, pipe 2 lacks EN_AA and a length, and is not enabled
+    Setup {
+        config_crc8: 0x09,
+        config_crc16: 0x0D,
+        en_aa: 0x3B,
+        en_rxaddr: 0x3B,
+        setup_aw: 0x03,
+        rx_addr_p0: [0xE7, 0xE7, 0xE7, 0xE7, 0xE7],
+        rx_addr_p1: [0xC2, 0xC2, 0xC2, 0xC2, 0xC2],
+        low_bytes: [0xC3, 0xC4, 0xC5, 0xC6],
+        tx_addr: [0xE7, 0xE7, 0xE7, 0xE7, 0xE7],
+        lengths: [0x01, 0x01, 0x00, 0x01, 0x01, 0x01],
+        fault: None,
+    },
+    // receiver, enabled pipe 3 lacks EN_AA
+    Setup {
+        config_crc8: 0x09,
+        config_crc16: 0x0D,
+        en_aa: 0x37,
+        en_rxaddr: 0x08,
+        setup_aw: 0x03,
+        rx_addr_p0: [0xE7, 0xE7, 0xE7, 0xE7, 0xE7],
+        rx_addr_p1: [0xC2, 0xC2, 0xC2, 0xC2, 0xC2],
+        low_bytes: [0xC3, 0xC4, 0xC5, 0xC6],
+        tx_addr: [0xE7, 0xE7, 0xE7, 0xE7, 0xE7],
+        lengths: [0x00, 0x00, 0x00, 0x01, 0x00, 0x00],
+        fault: Some(0x01),
+    },
+    // receiver, enabled pipe 3 has payload length 0
+    Setup {
+        config_crc8: 0x09,
+        config_crc16: 0x0D,
+        en_aa: 0x3F,
+        en_rxaddr: 0x08,
+        setup_aw: 0x03,
+        rx_addr_p0: [0xE7, 0xE7, 0xE7, 0xE7, 0xE7],
+        rx_addr_p1: [0xC2, 0xC2, 0xC2, 0xC2, 0xC2],
+        low_bytes: [0xC3, 0xC4, 0xC5, 0xC6],
+        tx_addr: [0xE7, 0xE7, 0xE7, 0xE7, 0xE7],
+        lengths: [0x00, 0x00, 0x00, 0x00, 0x00, 0x00],
+        fault: Some(0x14),
+    },
+    // receiver, pipe 3 lacks EN_AA and a length, and is not enabled
+    Setup {
+        config_crc8: 0x09,
+        config_crc16: 0x0D,
+        en_aa: 0x37,
+        en_rxaddr: 0x37,
+        setup_aw: 0x03,
+        rx_addr_p0: [0xE7, 0xE7, 0xE7, 0xE7, 0xE7],
+        rx_addr_p1: [0xC2, 0xC2, 0xC2, 0xC2, 0xC2],
+        low_bytes: [0xC3, 0xC4, 0xC5, 0xC6],
+        tx_addr: [0xE7, 0xE7, 0xE7, 0xE7, 0xE7],
+        lengths: [0x01, 0x01, 0x01, 0x00, 0x01, 0x01],
+        fault: None,
+    },
+    // receiver, enabled pipe 4 lacks EN_AA
+    Setup {
+        config_crc8: 0x09,
+        config_crc16: 0x0D,
+        en_aa: 0x2F,
+        en_rxaddr: 0x10,
+        setup_aw: 0x03,
+        rx_addr_p0: [0xE7, 0xE7, 0xE7, 0xE7, 0xE7],
+        rx_addr_p1: [0xC2, 0xC2, 0xC2, 0xC2, 0xC2],
+        low_bytes: [0xC3, 0xC4, 0xC5, 0xC6],
+        tx_addr: [0xE7, 0xE7, 0xE7, 0xE7, 0xE7],
+        lengths: [0x00, 0x00, 0x00, 0x00, 0x01, 0x00],
+        fault: Some(0x01),
+    },
+    // receiver, enabled pipe 4 has payload length 0
+    Setup {
+        config_crc8: 0x09,
+        config_crc16: 0x0D,
+        en_aa: 0x3F,
+        en_rxaddr: 0x10,
+        setup_aw: 0x03,
+        rx_addr_p0: [0xE7, 0xE7, 0xE7, 0xE7, 0xE7],
+        rx_addr_p1: [0xC2, 0xC2, 0xC2, 0xC2, 0xC2],
+        low_bytes: [0xC3, 0xC4, 0xC5, 0xC6],
+        tx_addr: [0xE7, 0xE7, 0xE7, 0xE7, 0xE7],
+        lengths: [0x00, 0x00, 0x00, 0x00, 0x00, 0x00],
+        fault: Some(0x15),
+    },
+    // receiver, pipe 4 lacks EN_AA and a length, and is not enabled
+    Setup {
+        config_crc8: 0x09,
+        config_crc16: 0x0D,
+        en_aa: 0x2F,
+        en_rxaddr: 0x2F,
+        setup_aw: 0x03,
+        rx_addr_p0: [0xE7, 0xE7, 0xE7, 0xE7, 0xE7],
+        rx_addr_p1: [0xC2, 0xC2, 0xC2, 0xC2, 0xC2],
+        low_bytes: [0xC3, 0xC4, 0xC5, 0xC6],
+        tx_addr: [0xE7, 0xE7, 0xE7, 0xE7, 0xE7],
+        lengths: [0x01, 0x01, 0x01, 0x01, 0x00, 0x01],
+        fault: None,
+    },
+    // receiver, enabled pipe 5 lacks EN_AA
+    Setup {
+        config_crc8: 0x09,
+        config_crc16: 0x0D,
+        en_aa: 0x1F,
+        en_rxaddr: 0x20,
+        setup_aw: 0x03,
+        rx_addr_p0: [0xE7, 0xE7, 0xE7, 0xE7, 0xE7],
+        rx_addr_p1: [0xC2, 0xC2, 0xC2, 0xC2, 0xC2],
+        low_bytes: [0xC3, 0xC4, 0xC5, 0xC6],
+        tx_addr: [0xE7, 0xE7, 0xE7, 0xE7, 0xE7],
+        lengths: [0x00, 0x00, 0x00, 0x00, 0x00, 0x01],
+        fault: Some(0x01),
+    },
+    // receiver, enabled pipe 5 has payload length 0
+    Setup {
+        config_crc8: 0x09,
+        config_crc16: 0x0D,
+        en_aa: 0x3F,
+        en_rxaddr: 0x20,
+        setup_aw: 0x03,
+        rx_addr_p0: [0xE7, 0xE7, 0xE7, 0xE7, 0xE7],
+        rx_addr_p1: [0xC2, 0xC2, 0xC2, 0xC2, 0xC2],
+        low_bytes: [0xC3, 0xC4, 0xC5, 0xC6],
+        tx_addr: [0xE7, 0xE7, 0xE7, 0xE7, 0xE7],
+        lengths: [0x00, 0x00, 0x00, 0x00, 0x00, 0x00],
+        fault: Some(0x16),
+    },
+    // receiver, pipe 5 lacks EN_AA and a length, and is not enabled
+    Setup {
+        config_crc8: 0x09,
+        config_crc16: 0x0D,
+        en_aa: 0x1F,
+        en_rxaddr: 0x1F,
+        setup_aw: 0x03,
+        rx_addr_p0: [0xE7, 0xE7, 0xE7, 0xE7, 0xE7],
+        rx_addr_p1: [0xC2, 0xC2, 0xC2, 0xC2, 0xC2],
+        low_bytes: [0xC3, 0xC4, 0xC5, 0xC6],
+        tx_addr: [0xE7, 0xE7, 0xE7, 0xE7, 0xE7],
+        lengths: [0x01, 0x01, 0x01, 0x01, 0x01, 0x00],
+        fault: None,
+    },
+    // receiver, no pipe enabled
+    Setup {
+        config_crc8: 0x09,
+        config_crc16: 0x0D,
+        en_aa: 0x3F,
+        en_rxaddr: 0x00,
+        setup_aw: 0x03,
+        rx_addr_p0: [0xE7, 0xE7, 0xE7, 0xE7, 0xE7],
+        rx_addr_p1: [0xC2, 0xC2, 0xC2, 0xC2, 0xC2],
+        low_bytes: [0xC3, 0xC4, 0xC5, 0xC6],
+        tx_addr: [0xE7, 0xE7, 0xE7, 0xE7, 0xE7],
+        lengths: [0x00, 0x00, 0x00, 0x00, 0x00, 0x00],
+        fault: Some(0x02),
+    },
+    // sender, enabled pipe 0 lacks EN_AA
+    Setup {
+        config_crc8: 0x08,
+        config_crc16: 0x0C,
+        en_aa: 0x3E,
+        en_rxaddr: 0x03,
+        setup_aw: 0x03,
+        rx_addr_p0: [0xE7, 0xE7, 0xE7, 0xE7, 0xE7],
+        rx_addr_p1: [0xC2, 0xC2, 0xC2, 0xC2, 0xC2],
+        low_bytes: [0xC3, 0xC4, 0xC5, 0xC6],
+        tx_addr: [0xE7, 0xE7, 0xE7, 0xE7, 0xE7],
+        lengths: [0x00, 0x00, 0x00, 0x00, 0x00, 0x00],
+        fault: Some(0x01),
+    },
+    // sender, enabled pipe 1 lacks EN_AA
+    Setup {
+        config_crc8: 0x08,
+        config_crc16: 0x0C,
+        en_aa: 0x01,
+        en_rxaddr: 0x03,
+        setup_aw: 0x03,
+        rx_addr_p0: [0xE7, 0xE7, 0xE7, 0xE7, 0xE7],
+        rx_addr_p1: [0xC2, 0xC2, 0xC2, 0xC2, 0xC2],
+        low_bytes: [0xC3, 0xC4, 0xC5, 0xC6],
+        tx_addr: [0xE7, 0xE7, 0xE7, 0xE7, 0xE7],
+        lengths: [0x00, 0x00, 0x00, 0x00, 0x00, 0x00],
+        fault: None,
+    },
+    // sender, pipe 0 lacks EN_AA and is not enabled
+    Setup {
+        config_crc8: 0x08,
+        config_crc16: 0x0C,
+        en_aa: 0x3E,
+        en_rxaddr: 0x3E,
+        setup_aw: 0x03,
+        rx_addr_p0: [0xE7, 0xE7, 0xE7, 0xE7, 0xE7],
+        rx_addr_p1: [0xC2, 0xC2, 0xC2, 0xC2, 0xC2],
+        low_bytes: [0xC3, 0xC4, 0xC5, 0xC6],
+        tx_addr: [0xE7, 0xE7, 0xE7, 0xE7, 0xE7],
+        lengths: [0x00, 0x00, 0x00, 0x00, 0x00, 0x00],
+        fault: Some(0x02),
+    },
+    // sender, only pipe 0 enabled
+    Setup {
+        config_crc8: 0x08,
+        config_crc16: 0x0C,
+        en_aa: 0x3F,
+        en_rxaddr: 0x01,
+        setup_aw: 0x03,
+        rx_addr_p0: [0xE7, 0xE7, 0xE7, 0xE7, 0xE7],
+        rx_addr_p1: [0xC2, 0xC2, 0xC2, 0xC2, 0xC2],
+        low_bytes: [0xC3, 0xC4, 0xC5, 0xC6],
+        tx_addr: [0xE7, 0xE7, 0xE7, 0xE7, 0xE7],
+        lengths: [0x00, 0x00, 0x00, 0x00, 0x00, 0x00],
+        fault: None,
+    },
+    // receiver, pipe 1 has the address of pipe 0
+    Setup {
+        config_crc8: 0x09,
+        config_crc16: 0x0D,
+        en_aa: 0x3F,
+        en_rxaddr: 0x03,
+        setup_aw: 0x03,
+        rx_addr_p0: [0xC2, 0xC2, 0xC2, 0xC2, 0xC2],
+        rx_addr_p1: [0xC2, 0xC2, 0xC2, 0xC2, 0xC2],
+        low_bytes: [0xC3, 0xC4, 0xC5, 0xC6],
+        tx_addr: [0xE7, 0xE7, 0xE7, 0xE7, 0xE7],
+        lengths: [0x01, 0x01, 0x00, 0x00, 0x00, 0x00],
+        fault: Some(0x0B),
+    },
+    // receiver, pipe 1 has the address of pipe 0, which is not enabled
+    Setup {
+        config_crc8: 0x09,
+        config_crc16: 0x0D,
+        en_aa: 0x3F,
+        en_rxaddr: 0x02,
+        setup_aw: 0x03,
+        rx_addr_p0: [0xC2, 0xC2, 0xC2, 0xC2, 0xC2],
+        rx_addr_p1: [0xC2, 0xC2, 0xC2, 0xC2, 0xC2],
+        low_bytes: [0xC3, 0xC4, 0xC5, 0xC6],
+        tx_addr: [0xE7, 0xE7, 0xE7, 0xE7, 0xE7],
+        lengths: [0x00, 0x01, 0x00, 0x00, 0x00, 0x00],
+        fault: None,
+    },
+    // receiver, pipe 1, not enabled, has the address of pipe 0
+    Setup {
+        config_crc8: 0x09,
+        config_crc16: 0x0D,
+        en_aa: 0x3F,
+        en_rxaddr: 0x01,
+        setup_aw: 0x03,
+        rx_addr_p0: [0xC2, 0xC2, 0xC2, 0xC2, 0xC2],
+        rx_addr_p1: [0xC2, 0xC2, 0xC2, 0xC2, 0xC2],
+        low_bytes: [0xC3, 0xC4, 0xC5, 0xC6],
+        tx_addr: [0xE7, 0xE7, 0xE7, 0xE7, 0xE7],
+        lengths: [0x01, 0x00, 0x00, 0x00, 0x00, 0x00],
+        fault: None,
+    },
+    // receiver, pipe 2 has the address of pipe 0
+    Setup {
+        config_crc8: 0x09,
+        config_crc16: 0x0D,
+        en_aa: 0x3F,
+        en_rxaddr: 0x05,
+        setup_aw: 0x03,
+        rx_addr_p0: [0xC3, 0xC2, 0xC2, 0xC2, 0xC2],
+        rx_addr_p1: [0xC2, 0xC2, 0xC2, 0xC2, 0xC2],
+        low_bytes: [0xC3, 0xC4, 0xC5, 0xC6],
+        tx_addr: [0xE7, 0xE7, 0xE7, 0xE7, 0xE7],
+        lengths: [0x01, 0x00, 0x01, 0x00, 0x00, 0x00],
+        fault: Some(0x0C),
+    },
+    // receiver, pipe 2 has the address of pipe 1
+    Setup {
+        config_crc8: 0x09,
+        config_crc16: 0x0D,
+        en_aa: 0x3F,
+        en_rxaddr: 0x06,
+        setup_aw: 0x03,
+        rx_addr_p0: [0xE7, 0xE7, 0xE7, 0xE7, 0xE7],
+        rx_addr_p1: [0xC2, 0xC2, 0xC2, 0xC2, 0xC2],
+        low_bytes: [0xC2, 0xC4, 0xC5, 0xC6],
+        tx_addr: [0xE7, 0xE7, 0xE7, 0xE7, 0xE7],
+        lengths: [0x00, 0x01, 0x01, 0x00, 0x00, 0x00],
+        fault: Some(0x0C),
+    },
+    // receiver, pipe 2 has the address of pipe 1, which is not enabled
+    Setup {
+        config_crc8: 0x09,
+        config_crc16: 0x0D,
+        en_aa: 0x3F,
+        en_rxaddr: 0x04,
+        setup_aw: 0x03,
+        rx_addr_p0: [0xE7, 0xE7, 0xE7, 0xE7, 0xE7],
+        rx_addr_p1: [0xC2, 0xC2, 0xC2, 0xC2, 0xC2],
+        low_bytes: [0xC2, 0xC4, 0xC5, 0xC6],
+        tx_addr: [0xE7, 0xE7, 0xE7, 0xE7, 0xE7],
+        lengths: [0x00, 0x00, 0x01, 0x00, 0x00, 0x00],
+        fault: None,
+    },
+    // receiver, pipe 2, not enabled, has the address of pipe 1
+    Setup {
+        config_crc8: 0x09,
+        config_crc16: 0x0D,
+        en_aa: 0x3F,
+        en_rxaddr: 0x02,
+        setup_aw: 0x03,
+        rx_addr_p0: [0xE7, 0xE7, 0xE7, 0xE7, 0xE7],
+        rx_addr_p1: [0xC2, 0xC2, 0xC2, 0xC2, 0xC2],
+        low_bytes: [0xC2, 0xC4, 0xC5, 0xC6],
+        tx_addr: [0xE7, 0xE7, 0xE7, 0xE7, 0xE7],
+        lengths: [0x00, 0x01, 0x00, 0x00, 0x00, 0x00],
+        fault: None,
+    },
+    // receiver, pipe 3 has the address of pipe 0
+    Setup {
+        config_crc8: 0x09,
+        config_crc16: 0x0D,
+        en_aa: 0x3F,
+        en_rxaddr: 0x09,
+        setup_aw: 0x03,
+        rx_addr_p0: [0xC4, 0xC2, 0xC2, 0xC2, 0xC2],
+        rx_addr_p1: [0xC2, 0xC2, 0xC2, 0xC2, 0xC2],
+        low_bytes: [0xC3, 0xC4, 0xC5, 0xC6],
+        tx_addr: [0xE7, 0xE7, 0xE7, 0xE7, 0xE7],
+        lengths: [0x01, 0x00, 0x00, 0x01, 0x00, 0x00],
+        fault: Some(0x0D),
+    },
+    // receiver, pipe 3 has the address of pipe 1
+    Setup {
+        config_crc8: 0x09,
+        config_crc16: 0x0D,
+        en_aa: 0x3F,
+        en_rxaddr: 0x0A,
+        setup_aw: 0x03,
+        rx_addr_p0: [0xE7, 0xE7, 0xE7, 0xE7, 0xE7],
+        rx_addr_p1: [0xC2, 0xC2, 0xC2, 0xC2, 0xC2],
+        low_bytes: [0xC3, 0xC2, 0xC5, 0xC6],
+        tx_addr: [0xE7, 0xE7, 0xE7, 0xE7, 0xE7],
+        lengths: [0x00, 0x01, 0x00, 0x01, 0x00, 0x00],
+        fault: Some(0x0D),
+    },
+    // receiver, pipe 3 has the address of pipe 2
+    Setup {
+        config_crc8: 0x09,
+        config_crc16: 0x0D,
+        en_aa: 0x3F,
+        en_rxaddr: 0x0C,
+        setup_aw: 0x03,
+        rx_addr_p0: [0xE7, 0xE7, 0xE7, 0xE7, 0xE7],
+        rx_addr_p1: [0xC2, 0xC2, 0xC2, 0xC2, 0xC2],
+        low_bytes: [0xC3, 0xC3, 0xC5, 0xC6],
+        tx_addr: [0xE7, 0xE7, 0xE7, 0xE7, 0xE7],
+        lengths: [0x00, 0x00, 0x01, 0x01, 0x00, 0x00],
+        fault: Some(0x0D),
+    },
+    // receiver, pipe 3 has the address of pipe 2, which is not enabled
+    Setup {
+        config_crc8: 0x09,
+        config_crc16: 0x0D,
+        en_aa: 0x3F,
+        en_rxaddr: 0x08,
+        setup_aw: 0x03,
+        rx_addr_p0: [0xE7, 0xE7, 0xE7, 0xE7, 0xE7],
+        rx_addr_p1: [0xC2, 0xC2, 0xC2, 0xC2, 0xC2],
+        low_bytes: [0xC3, 0xC3, 0xC5, 0xC6],
+        tx_addr: [0xE7, 0xE7, 0xE7, 0xE7, 0xE7],
+        lengths: [0x00, 0x00, 0x00, 0x01, 0x00, 0x00],
+        fault: None,
+    },
+    // receiver, pipe 3, not enabled, has the address of pipe 2
+    Setup {
+        config_crc8: 0x09,
+        config_crc16: 0x0D,
+        en_aa: 0x3F,
+        en_rxaddr: 0x04,
+        setup_aw: 0x03,
+        rx_addr_p0: [0xE7, 0xE7, 0xE7, 0xE7, 0xE7],
+        rx_addr_p1: [0xC2, 0xC2, 0xC2, 0xC2, 0xC2],
+        low_bytes: [0xC3, 0xC3, 0xC5, 0xC6],
+        tx_addr: [0xE7, 0xE7, 0xE7, 0xE7, 0xE7],
+        lengths: [0x00, 0x00, 0x01, 0x00, 0x00, 0x00],
+        fault: None,
+    },
+    // receiver, pipe 4 has the address of pipe 0
+    Setup {
+        config_crc8: 0x09,
+        config_crc16: 0x0D,
+        en_aa: 0x3F,
+        en_rxaddr: 0x11,
+        setup_aw: 0x03,
+        rx_addr_p0: [0xC5, 0xC2, 0xC2, 0xC2, 0xC2],
+        rx_addr_p1: [0xC2, 0xC2, 0xC2, 0xC2, 0xC2],
+        low_bytes: [0xC3, 0xC4, 0xC5, 0xC6],
+        tx_addr: [0xE7, 0xE7, 0xE7, 0xE7, 0xE7],
+        lengths: [0x01, 0x00, 0x00, 0x00, 0x01, 0x00],
+        fault: Some(0x0E),
+    },
+    // receiver, pipe 4 has the address of pipe 1
+    Setup {
+        config_crc8: 0x09,
+        config_crc16: 0x0D,
+        en_aa: 0x3F,
+        en_rxaddr: 0x12,
+        setup_aw: 0x03,
+        rx_addr_p0: [0xE7, 0xE7, 0xE7, 0xE7, 0xE7],
+        rx_addr_p1: [0xC2, 0xC2, 0xC2, 0xC2, 0xC2],
+        low_bytes: [0xC3, 0xC4, 0xC2, 0xC6],
+        tx_addr: [0xE7, 0xE7, 0xE7, 0xE7, 0xE7],
+        lengths: [0x00, 0x01, 0x00, 0x00, 0x01, 0x00],
+        fault: Some(0x0E),
+    },
+    // receiver, pipe 4 has the address of pipe 2
+    Setup {
+        config_crc8: 0x09,
+        config_crc16: 0x0D,
+        en_aa: 0x3F,
+        en_rxaddr: 0x14,
+        setup_aw: 0x03,
+        rx_addr_p0: [0xE7, 0xE7, 0xE7, 0xE7, 0xE7],
+        rx_addr_p1: [0xC2, 0xC2, 0xC2, 0xC2, 0xC2],
+        low_bytes: [0xC3, 0xC4, 0xC3, 0xC6],
+        tx_addr: [0xE7, 0xE7, 0xE7, 0xE7, 0xE7],
+        lengths: [0x00, 0x00, 0x01, 0x00, 0x01, 0x00],
+        fault: Some(0x0E),
+    },
+    // receiver, pipe 4 has the address of pipe 3
+    Setup {
+        config_crc8: 0x09,
+        config_crc16: 0x0D,
+        en_aa: 0x3F,
+        en_rxaddr: 0x18,
+        setup_aw: 0x03,
+        rx_addr_p0: [0xE7, 0xE7, 0xE7, 0xE7, 0xE7],
+        rx_addr_p1: [0xC2, 0xC2, 0xC2, 0xC2, 0xC2],
+        low_bytes: [0xC3, 0xC4, 0xC4, 0xC6],
+        tx_addr: [0xE7, 0xE7, 0xE7, 0xE7, 0xE7],
+        lengths: [0x00, 0x00, 0x00, 0x01, 0x01, 0x00],
+        fault: Some(0x0E),
+    },
+    // receiver, pipe 4 has the address of pipe 3, which is not enabled
+    Setup {
+        config_crc8: 0x09,
+        config_crc16: 0x0D,
+        en_aa: 0x3F,
+        en_rxaddr: 0x10,
+        setup_aw: 0x03,
+        rx_addr_p0: [0xE7, 0xE7, 0xE7, 0xE7, 0xE7],
+        rx_addr_p1: [0xC2, 0xC2, 0xC2, 0xC2, 0xC2],
+        low_bytes: [0xC3, 0xC4, 0xC4, 0xC6],
+        tx_addr: [0xE7, 0xE7, 0xE7, 0xE7, 0xE7],
+        lengths: [0x00, 0x00, 0x00, 0x00, 0x01, 0x00],
+        fault: None,
+    },
+    // receiver, pipe 4, not enabled, has the address of pipe 3
+    Setup {
+        config_crc8: 0x09,
+        config_crc16: 0x0D,
+        en_aa: 0x3F,
+        en_rxaddr: 0x08,
+        setup_aw: 0x03,
+        rx_addr_p0: [0xE7, 0xE7, 0xE7, 0xE7, 0xE7],
+        rx_addr_p1: [0xC2, 0xC2, 0xC2, 0xC2, 0xC2],
+        low_bytes: [0xC3, 0xC4, 0xC4, 0xC6],
+        tx_addr: [0xE7, 0xE7, 0xE7, 0xE7, 0xE7],
+        lengths: [0x00, 0x00, 0x00, 0x01, 0x00, 0x00],
+        fault: None,
+    },
+    // receiver, pipe 5 has the address of pipe 0
+    Setup {
+        config_crc8: 0x09,
+        config_crc16: 0x0D,
+        en_aa: 0x3F,
+        en_rxaddr: 0x21,
+        setup_aw: 0x03,
+        rx_addr_p0: [0xC6, 0xC2, 0xC2, 0xC2, 0xC2],
+        rx_addr_p1: [0xC2, 0xC2, 0xC2, 0xC2, 0xC2],
+        low_bytes: [0xC3, 0xC4, 0xC5, 0xC6],
+        tx_addr: [0xE7, 0xE7, 0xE7, 0xE7, 0xE7],
+        lengths: [0x01, 0x00, 0x00, 0x00, 0x00, 0x01],
+        fault: Some(0x0F),
+    },
+    // receiver, pipe 5 has the address of pipe 1
+    Setup {
+        config_crc8: 0x09,
+        config_crc16: 0x0D,
+        en_aa: 0x3F,
+        en_rxaddr: 0x22,
+        setup_aw: 0x03,
+        rx_addr_p0: [0xE7, 0xE7, 0xE7, 0xE7, 0xE7],
+        rx_addr_p1: [0xC2, 0xC2, 0xC2, 0xC2, 0xC2],
+        low_bytes: [0xC3, 0xC4, 0xC5, 0xC2],
+        tx_addr: [0xE7, 0xE7, 0xE7, 0xE7, 0xE7],
+        lengths: [0x00, 0x01, 0x00, 0x00, 0x00, 0x01],
+        fault: Some(0x0F),
+    },
+    // receiver, pipe 5 has the address of pipe 2
+    Setup {
+        config_crc8: 0x09,
+        config_crc16: 0x0D,
+        en_aa: 0x3F,
+        en_rxaddr: 0x24,
+        setup_aw: 0x03,
+        rx_addr_p0: [0xE7, 0xE7, 0xE7, 0xE7, 0xE7],
+        rx_addr_p1: [0xC2, 0xC2, 0xC2, 0xC2, 0xC2],
+        low_bytes: [0xC3, 0xC4, 0xC5, 0xC3],
+        tx_addr: [0xE7, 0xE7, 0xE7, 0xE7, 0xE7],
+        lengths: [0x00, 0x00, 0x01, 0x00, 0x00, 0x01],
+        fault: Some(0x0F),
+    },
+    // receiver, pipe 5 has the address of pipe 3
+    Setup {
+        config_crc8: 0x09,
+        config_crc16: 0x0D,
+        en_aa: 0x3F,
+        en_rxaddr: 0x28,
+        setup_aw: 0x03,
+        rx_addr_p0: [0xE7, 0xE7, 0xE7, 0xE7, 0xE7],
+        rx_addr_p1: [0xC2, 0xC2, 0xC2, 0xC2, 0xC2],
+        low_bytes: [0xC3, 0xC4, 0xC5, 0xC4],
+        tx_addr: [0xE7, 0xE7, 0xE7, 0xE7, 0xE7],
+        lengths: [0x00, 0x00, 0x00, 0x01, 0x00, 0x01],
+        fault: Some(0x0F),
+    },
+    // receiver, pipe 5 has the address of pipe 4
+    Setup {
+        config_crc8: 0x09,
+        config_crc16: 0x0D,
+        en_aa: 0x3F,
+        en_rxaddr: 0x30,
+        setup_aw: 0x03,
+        rx_addr_p0: [0xE7, 0xE7, 0xE7, 0xE7, 0xE7],
+        rx_addr_p1: [0xC2, 0xC2, 0xC2, 0xC2, 0xC2],
+        low_bytes: [0xC3, 0xC4, 0xC5, 0xC5],
+        tx_addr: [0xE7, 0xE7, 0xE7, 0xE7, 0xE7],
+        lengths: [0x00, 0x00, 0x00, 0x00, 0x01, 0x01],
+        fault: Some(0x0F),
+    },
+    // receiver, pipe 5 has the address of pipe 4, which is not enabled
+    Setup {
+        config_crc8: 0x09,
+        config_crc16: 0x0D,
+        en_aa: 0x3F,
+        en_rxaddr: 0x20,
+        setup_aw: 0x03,
+        rx_addr_p0: [0xE7, 0xE7, 0xE7, 0xE7, 0xE7],
+        rx_addr_p1: [0xC2, 0xC2, 0xC2, 0xC2, 0xC2],
+        low_bytes: [0xC3, 0xC4, 0xC5, 0xC5],
+        tx_addr: [0xE7, 0xE7, 0xE7, 0xE7, 0xE7],
+        lengths: [0x00, 0x00, 0x00, 0x00, 0x00, 0x01],
+        fault: None,
+    },
+    // receiver, pipe 5, not enabled, has the address of pipe 4
+    Setup {
+        config_crc8: 0x09,
+        config_crc16: 0x0D,
+        en_aa: 0x3F,
+        en_rxaddr: 0x10,
+        setup_aw: 0x03,
+        rx_addr_p0: [0xE7, 0xE7, 0xE7, 0xE7, 0xE7],
+        rx_addr_p1: [0xC2, 0xC2, 0xC2, 0xC2, 0xC2],
+        low_bytes: [0xC3, 0xC4, 0xC5, 0xC5],
+        tx_addr: [0xE7, 0xE7, 0xE7, 0xE7, 0xE7],
+        lengths: [0x00, 0x00, 0x00, 0x00, 0x01, 0x00],
+        fault: None,
+    },
+    // sender, pipe 1 has the address of pipe 0
+    Setup {
+        config_crc8: 0x08,
+        config_crc16: 0x0C,
+        en_aa: 0x3F,
+        en_rxaddr: 0x03,
+        setup_aw: 0x03,
+        rx_addr_p0: [0xE7, 0xE7, 0xE7, 0xE7, 0xE7],
+        rx_addr_p1: [0xE7, 0xE7, 0xE7, 0xE7, 0xE7],
+        low_bytes: [0xC3, 0xC4, 0xC5, 0xC6],
+        tx_addr: [0xE7, 0xE7, 0xE7, 0xE7, 0xE7],
+        lengths: [0x00, 0x00, 0x00, 0x00, 0x00, 0x00],
+        fault: None,
+    },
+    // sender, TX_ADDR, address width 3, unlike in byte 2
+    Setup {
+        config_crc8: 0x08,
+        config_crc16: 0x0C,
+        en_aa: 0x3F,
+        en_rxaddr: 0x03,
+        setup_aw: 0x01,
+        rx_addr_p0: [0xE7, 0xE7, 0xE7, 0xE7, 0xE7],
+        rx_addr_p1: [0xC2, 0xC2, 0xC2, 0xC2, 0xC2],
+        low_bytes: [0xC3, 0xC4, 0xC5, 0xC6],
+        tx_addr: [0xE7, 0xE7, 0xE6, 0xE7, 0xE7],
+        lengths: [0x00, 0x00, 0x00, 0x00, 0x00, 0x00],
+        fault: Some(0x10),
+    },
+    // receiver, pipes 0 and 1, address width 3, unlike in byte 2
+    Setup {
+        config_crc8: 0x09,
+        config_crc16: 0x0D,
+        en_aa: 0x3F,
+        en_rxaddr: 0x03,
+        setup_aw: 0x01,
+        rx_addr_p0: [0xE7, 0xE7, 0xE7, 0xE7, 0xE7],
+        rx_addr_p1: [0xE7, 0xE7, 0xE6, 0xE7, 0xE7],
+        low_bytes: [0xC3, 0xC4, 0xC5, 0xC6],
+        tx_addr: [0xE7, 0xE7, 0xE7, 0xE7, 0xE7],
+        lengths: [0x01, 0x01, 0x00, 0x00, 0x00, 0x00],
+        fault: None,
+    },
+    // sender, TX_ADDR, address width 3, unlike in byte 3
+    Setup {
+        config_crc8: 0x08,
+        config_crc16: 0x0C,
+        en_aa: 0x3F,
+        en_rxaddr: 0x03,
+        setup_aw: 0x01,
+        rx_addr_p0: [0xE7, 0xE7, 0xE7, 0xE7, 0xE7],
+        rx_addr_p1: [0xC2, 0xC2, 0xC2, 0xC2, 0xC2],
+        low_bytes: [0xC3, 0xC4, 0xC5, 0xC6],
+        tx_addr: [0xE7, 0xE7, 0xE7, 0xE6, 0xE7],
+        lengths: [0x00, 0x00, 0x00, 0x00, 0x00, 0x00],
+        fault: None,
+    },
+    // receiver, pipes 0 and 1, address width 3, unlike in byte 3
+    Setup {
+        config_crc8: 0x09,
+        config_crc16: 0x0D,
+        en_aa: 0x3F,
+        en_rxaddr: 0x03,
+        setup_aw: 0x01,
+        rx_addr_p0: [0xE7, 0xE7, 0xE7, 0xE7, 0xE7],
+        rx_addr_p1: [0xE7, 0xE7, 0xE7, 0xE6, 0xE7],
+        low_bytes: [0xC3, 0xC4, 0xC5, 0xC6],
+        tx_addr: [0xE7, 0xE7, 0xE7, 0xE7, 0xE7],
+        lengths: [0x01, 0x01, 0x00, 0x00, 0x00, 0x00],
+        fault: Some(0x0B),
+    },
+    // sender, TX_ADDR, address width 3, unlike in byte 4
+    Setup {
+        config_crc8: 0x08,
+        config_crc16: 0x0C,
+        en_aa: 0x3F,
+        en_rxaddr: 0x03,
+        setup_aw: 0x01,
+        rx_addr_p0: [0xE7, 0xE7, 0xE7, 0xE7, 0xE7],
+        rx_addr_p1: [0xC2, 0xC2, 0xC2, 0xC2, 0xC2],
+        low_bytes: [0xC3, 0xC4, 0xC5, 0xC6],
+        tx_addr: [0xE7, 0xE7, 0xE7, 0xE7, 0xE6],
+        lengths: [0x00, 0x00, 0x00, 0x00, 0x00, 0x00],
+        fault: None,
+    },
+    // receiver, pipes 0 and 1, address width 3, unlike in byte 4
+    Setup {
+        config_crc8: 0x09,
+        config_crc16: 0x0D,
+        en_aa: 0x3F,
+        en_rxaddr: 0x03,
+        setup_aw: 0x01,
+        rx_addr_p0: [0xE7, 0xE7, 0xE7, 0xE7, 0xE7],
+        rx_addr_p1: [0xE7, 0xE7, 0xE7, 0xE7, 0xE6],
+        low_bytes: [0xC3, 0xC4, 0xC5, 0xC6],
+        tx_addr: [0xE7, 0xE7, 0xE7, 0xE7, 0xE7],
+        lengths: [0x01, 0x01, 0x00, 0x00, 0x00, 0x00],
+        fault: Some(0x0B),
+    },
+    // sender, TX_ADDR, address width 4, unlike in byte 2
+    Setup {
+        config_crc8: 0x08,
+        config_crc16: 0x0C,
+        en_aa: 0x3F,
+        en_rxaddr: 0x03,
+        setup_aw: 0x02,
+        rx_addr_p0: [0xE7, 0xE7, 0xE7, 0xE7, 0xE7],
+        rx_addr_p1: [0xC2, 0xC2, 0xC2, 0xC2, 0xC2],
+        low_bytes: [0xC3, 0xC4, 0xC5, 0xC6],
+        tx_addr: [0xE7, 0xE7, 0xE6, 0xE7, 0xE7],
+        lengths: [0x00, 0x00, 0x00, 0x00, 0x00, 0x00],
+        fault: Some(0x10),
+    },
+    // receiver, pipes 0 and 1, address width 4, unlike in byte 2
+    Setup {
+        config_crc8: 0x09,
+        config_crc16: 0x0D,
+        en_aa: 0x3F,
+        en_rxaddr: 0x03,
+        setup_aw: 0x02,
+        rx_addr_p0: [0xE7, 0xE7, 0xE7, 0xE7, 0xE7],
+        rx_addr_p1: [0xE7, 0xE7, 0xE6, 0xE7, 0xE7],
+        low_bytes: [0xC3, 0xC4, 0xC5, 0xC6],
+        tx_addr: [0xE7, 0xE7, 0xE7, 0xE7, 0xE7],
+        lengths: [0x01, 0x01, 0x00, 0x00, 0x00, 0x00],
+        fault: None,
+    },
+    // sender, TX_ADDR, address width 4, unlike in byte 3
+    Setup {
+        config_crc8: 0x08,
+        config_crc16: 0x0C,
+        en_aa: 0x3F,
+        en_rxaddr: 0x03,
+        setup_aw: 0x02,
+        rx_addr_p0: [0xE7, 0xE7, 0xE7, 0xE7, 0xE7],
+        rx_addr_p1: [0xC2, 0xC2, 0xC2, 0xC2, 0xC2],
+        low_bytes: [0xC3, 0xC4, 0xC5, 0xC6],
+        tx_addr: [0xE7, 0xE7, 0xE7, 0xE6, 0xE7],
+        lengths: [0x00, 0x00, 0x00, 0x00, 0x00, 0x00],
+        fault: Some(0x10),
+    },
+    // receiver, pipes 0 and 1, address width 4, unlike in byte 3
+    Setup {
+        config_crc8: 0x09,
+        config_crc16: 0x0D,
+        en_aa: 0x3F,
+        en_rxaddr: 0x03,
+        setup_aw: 0x02,
+        rx_addr_p0: [0xE7, 0xE7, 0xE7, 0xE7, 0xE7],
+        rx_addr_p1: [0xE7, 0xE7, 0xE7, 0xE6, 0xE7],
+        low_bytes: [0xC3, 0xC4, 0xC5, 0xC6],
+        tx_addr: [0xE7, 0xE7, 0xE7, 0xE7, 0xE7],
+        lengths: [0x01, 0x01, 0x00, 0x00, 0x00, 0x00],
+        fault: None,
+    },
+    // sender, TX_ADDR, address width 4, unlike in byte 4
+    Setup {
+        config_crc8: 0x08,
+        config_crc16: 0x0C,
+        en_aa: 0x3F,
+        en_rxaddr: 0x03,
+        setup_aw: 0x02,
+        rx_addr_p0: [0xE7, 0xE7, 0xE7, 0xE7, 0xE7],
+        rx_addr_p1: [0xC2, 0xC2, 0xC2, 0xC2, 0xC2],
+        low_bytes: [0xC3, 0xC4, 0xC5, 0xC6],
+        tx_addr: [0xE7, 0xE7, 0xE7, 0xE7, 0xE6],
+        lengths: [0x00, 0x00, 0x00, 0x00, 0x00, 0x00],
+        fault: None,
+    },
+    // receiver, pipes 0 and 1, address width 4, unlike in byte 4
+    Setup {
+        config_crc8: 0x09,
+        config_crc16: 0x0D,
+        en_aa: 0x3F,
+        en_rxaddr: 0x03,
+        setup_aw: 0x02,
+        rx_addr_p0: [0xE7, 0xE7, 0xE7, 0xE7, 0xE7],
+        rx_addr_p1: [0xE7, 0xE7, 0xE7, 0xE7, 0xE6],
+        low_bytes: [0xC3, 0xC4, 0xC5, 0xC6],
+        tx_addr: [0xE7, 0xE7, 0xE7, 0xE7, 0xE7],
+        lengths: [0x01, 0x01, 0x00, 0x00, 0x00, 0x00],
+        fault: Some(0x0B),
+    },
+    // sender, TX_ADDR, address width 5, unlike in byte 2
+    Setup {
+        config_crc8: 0x08,
+        config_crc16: 0x0C,
+        en_aa: 0x3F,
+        en_rxaddr: 0x03,
+        setup_aw: 0x03,
+        rx_addr_p0: [0xE7, 0xE7, 0xE7, 0xE7, 0xE7],
+        rx_addr_p1: [0xC2, 0xC2, 0xC2, 0xC2, 0xC2],
+        low_bytes: [0xC3, 0xC4, 0xC5, 0xC6],
+        tx_addr: [0xE7, 0xE7, 0xE6, 0xE7, 0xE7],
+        lengths: [0x00, 0x00, 0x00, 0x00, 0x00, 0x00],
+        fault: Some(0x10),
+    },
+    // receiver, pipes 0 and 1, address width 5, unlike in byte 2
+    Setup {
+        config_crc8: 0x09,
+        config_crc16: 0x0D,
+        en_aa: 0x3F,
+        en_rxaddr: 0x03,
+        setup_aw: 0x03,
+        rx_addr_p0: [0xE7, 0xE7, 0xE7, 0xE7, 0xE7],
+        rx_addr_p1: [0xE7, 0xE7, 0xE6, 0xE7, 0xE7],
+        low_bytes: [0xC3, 0xC4, 0xC5, 0xC6],
+        tx_addr: [0xE7, 0xE7, 0xE7, 0xE7, 0xE7],
+        lengths: [0x01, 0x01, 0x00, 0x00, 0x00, 0x00],
+        fault: None,
+    },
+    // sender, TX_ADDR, address width 5, unlike in byte 3
+    Setup {
+        config_crc8: 0x08,
+        config_crc16: 0x0C,
+        en_aa: 0x3F,
+        en_rxaddr: 0x03,
+        setup_aw: 0x03,
+        rx_addr_p0: [0xE7, 0xE7, 0xE7, 0xE7, 0xE7],
+        rx_addr_p1: [0xC2, 0xC2, 0xC2, 0xC2, 0xC2],
+        low_bytes: [0xC3, 0xC4, 0xC5, 0xC6],
+        tx_addr: [0xE7, 0xE7, 0xE7, 0xE6, 0xE7],
+        lengths: [0x00, 0x00, 0x00, 0x00, 0x00, 0x00],
+        fault: Some(0x10),
+    },
+    // receiver, pipes 0 and 1, address width 5, unlike in byte 3
+    Setup {
+        config_crc8: 0x09,
+        config_crc16: 0x0D,
+        en_aa: 0x3F,
+        en_rxaddr: 0x03,
+        setup_aw: 0x03,
+        rx_addr_p0: [0xE7, 0xE7, 0xE7, 0xE7, 0xE7],
+        rx_addr_p1: [0xE7, 0xE7, 0xE7, 0xE6, 0xE7],
+        low_bytes: [0xC3, 0xC4, 0xC5, 0xC6],
+        tx_addr: [0xE7, 0xE7, 0xE7, 0xE7, 0xE7],
+        lengths: [0x01, 0x01, 0x00, 0x00, 0x00, 0x00],
+        fault: None,
+    },
+    // sender, TX_ADDR, address width 5, unlike in byte 4
+    Setup {
+        config_crc8: 0x08,
+        config_crc16: 0x0C,
+        en_aa: 0x3F,
+        en_rxaddr: 0x03,
+        setup_aw: 0x03,
+        rx_addr_p0: [0xE7, 0xE7, 0xE7, 0xE7, 0xE7],
+        rx_addr_p1: [0xC2, 0xC2, 0xC2, 0xC2, 0xC2],
+        low_bytes: [0xC3, 0xC4, 0xC5, 0xC6],
+        tx_addr: [0xE7, 0xE7, 0xE7, 0xE7, 0xE6],
+        lengths: [0x00, 0x00, 0x00, 0x00, 0x00, 0x00],
+        fault: Some(0x10),
+    },
+    // receiver, pipes 0 and 1, address width 5, unlike in byte 4
+    Setup {
+        config_crc8: 0x09,
+        config_crc16: 0x0D,
+        en_aa: 0x3F,
+        en_rxaddr: 0x03,
+        setup_aw: 0x03,
+        rx_addr_p0: [0xE7, 0xE7, 0xE7, 0xE7, 0xE7],
+        rx_addr_p1: [0xE7, 0xE7, 0xE7, 0xE7, 0xE6],
+        low_bytes: [0xC3, 0xC4, 0xC5, 0xC6],
+        tx_addr: [0xE7, 0xE7, 0xE7, 0xE7, 0xE7],
+        lengths: [0x01, 0x01, 0x00, 0x00, 0x00, 0x00],
+        fault: None,
+    },
+    // receiver, TX_ADDR is unlike
+    Setup {
+        config_crc8: 0x09,
+        config_crc16: 0x0D,
+        en_aa: 0x3F,
+        en_rxaddr: 0x01,
+        setup_aw: 0x03,
+        rx_addr_p0: [0xE7, 0xE7, 0xE7, 0xE7, 0xE7],
+        rx_addr_p1: [0xC2, 0xC2, 0xC2, 0xC2, 0xC2],
+        low_bytes: [0xC3, 0xC4, 0xC5, 0xC6],
+        tx_addr: [0x00, 0x00, 0x00, 0x00, 0x00],
+        lengths: [0x01, 0x00, 0x00, 0x00, 0x00, 0x00],
+        fault: None,
+    },
+    // sender, CONFIG and EN_AA
+    Setup {
+        config_crc8: 0x00,
+        config_crc16: 0x04,
+        en_aa: 0x3E,
+        en_rxaddr: 0x03,
+        setup_aw: 0x03,
+        rx_addr_p0: [0xE7, 0xE7, 0xE7, 0xE7, 0xE7],
+        rx_addr_p1: [0xC2, 0xC2, 0xC2, 0xC2, 0xC2],
+        low_bytes: [0xC3, 0xC4, 0xC5, 0xC6],
+        tx_addr: [0xE7, 0xE7, 0xE7, 0xE7, 0xE7],
+        lengths: [0x00, 0x00, 0x00, 0x00, 0x00, 0x00],
+        fault: Some(0x00),
+    },
+    // sender, EN_AA and TX_ADDR
+    Setup {
+        config_crc8: 0x08,
+        config_crc16: 0x0C,
+        en_aa: 0x00,
+        en_rxaddr: 0x03,
+        setup_aw: 0x03,
+        rx_addr_p0: [0xE7, 0xE7, 0xE7, 0xE7, 0xE7],
+        rx_addr_p1: [0xC2, 0xC2, 0xC2, 0xC2, 0xC2],
+        low_bytes: [0xC3, 0xC4, 0xC5, 0xC6],
+        tx_addr: [0x00, 0x00, 0x00, 0x00, 0x00],
+        lengths: [0x00, 0x00, 0x00, 0x00, 0x00, 0x00],
+        fault: Some(0x01),
+    },
+    // sender, EN_RXADDR and TX_ADDR
+    Setup {
+        config_crc8: 0x08,
+        config_crc16: 0x0C,
+        en_aa: 0x3F,
+        en_rxaddr: 0x00,
+        setup_aw: 0x03,
+        rx_addr_p0: [0xE7, 0xE7, 0xE7, 0xE7, 0xE7],
+        rx_addr_p1: [0xC2, 0xC2, 0xC2, 0xC2, 0xC2],
+        low_bytes: [0xC3, 0xC4, 0xC5, 0xC6],
+        tx_addr: [0x00, 0x00, 0x00, 0x00, 0x00],
+        lengths: [0x00, 0x00, 0x00, 0x00, 0x00, 0x00],
+        fault: Some(0x02),
+    },
+    // receiver, CONFIG and EN_RXADDR
+    Setup {
+        config_crc8: 0x01,
+        config_crc16: 0x05,
+        en_aa: 0x3F,
+        en_rxaddr: 0x00,
+        setup_aw: 0x03,
+        rx_addr_p0: [0xE7, 0xE7, 0xE7, 0xE7, 0xE7],
+        rx_addr_p1: [0xC2, 0xC2, 0xC2, 0xC2, 0xC2],
+        low_bytes: [0xC3, 0xC4, 0xC5, 0xC6],
+        tx_addr: [0xE7, 0xE7, 0xE7, 0xE7, 0xE7],
+        lengths: [0x00, 0x00, 0x00, 0x00, 0x00, 0x00],
+        fault: Some(0x00),
+    },
+    // receiver, EN_AA and RX_ADDR_P1
+    Setup {
+        config_crc8: 0x09,
+        config_crc16: 0x0D,
+        en_aa: 0x00,
+        en_rxaddr: 0x03,
+        setup_aw: 0x03,
+        rx_addr_p0: [0xC2, 0xC2, 0xC2, 0xC2, 0xC2],
+        rx_addr_p1: [0xC2, 0xC2, 0xC2, 0xC2, 0xC2],
+        low_bytes: [0xC3, 0xC4, 0xC5, 0xC6],
+        tx_addr: [0xE7, 0xE7, 0xE7, 0xE7, 0xE7],
+        lengths: [0x01, 0x01, 0x00, 0x00, 0x00, 0x00],
+        fault: Some(0x01),
+    },
+    // receiver, EN_AA and RX_PW_P0
+    Setup {
+        config_crc8: 0x09,
+        config_crc16: 0x0D,
+        en_aa: 0x00,
+        en_rxaddr: 0x01,
+        setup_aw: 0x03,
+        rx_addr_p0: [0xE7, 0xE7, 0xE7, 0xE7, 0xE7],
+        rx_addr_p1: [0xC2, 0xC2, 0xC2, 0xC2, 0xC2],
+        low_bytes: [0xC3, 0xC4, 0xC5, 0xC6],
+        tx_addr: [0xE7, 0xE7, 0xE7, 0xE7, 0xE7],
+        lengths: [0x00, 0x00, 0x00, 0x00, 0x00, 0x00],
+        fault: Some(0x01),
+    },
+    // receiver, RX_ADDR_P1 and RX_ADDR_P2
+    Setup {
+        config_crc8: 0x09,
+        config_crc16: 0x0D,
+        en_aa: 0x3F,
+        en_rxaddr: 0x07,
+        setup_aw: 0x03,
+        rx_addr_p0: [0xC2, 0xC2, 0xC2, 0xC2, 0xC2],
+        rx_addr_p1: [0xC2, 0xC2, 0xC2, 0xC2, 0xC2],
+        low_bytes: [0xC2, 0xC4, 0xC5, 0xC6],
+        tx_addr: [0xE7, 0xE7, 0xE7, 0xE7, 0xE7],
+        lengths: [0x01, 0x01, 0x01, 0x00, 0x00, 0x00],
+        fault: Some(0x0B),
+    },
+    // receiver, RX_ADDR_P4 and RX_ADDR_P5
+    Setup {
+        config_crc8: 0x09,
+        config_crc16: 0x0D,
+        en_aa: 0x3F,
+        en_rxaddr: 0x38,
+        setup_aw: 0x03,
+        rx_addr_p0: [0xE7, 0xE7, 0xE7, 0xE7, 0xE7],
+        rx_addr_p1: [0xC2, 0xC2, 0xC2, 0xC2, 0xC2],
+        low_bytes: [0xC3, 0xC4, 0xC4, 0xC4],
+        tx_addr: [0xE7, 0xE7, 0xE7, 0xE7, 0xE7],
+        lengths: [0x00, 0x00, 0x00, 0x01, 0x01, 0x01],
+        fault: Some(0x0E),
+    },
+    // receiver, RX_ADDR_P5 and RX_PW_P0
+    Setup {
+        config_crc8: 0x09,
+        config_crc16: 0x0D,
+        en_aa: 0x3F,
+        en_rxaddr: 0x31,
+        setup_aw: 0x03,
+        rx_addr_p0: [0xE7, 0xE7, 0xE7, 0xE7, 0xE7],
+        rx_addr_p1: [0xC2, 0xC2, 0xC2, 0xC2, 0xC2],
+        low_bytes: [0xC3, 0xC4, 0xC5, 0xC5],
+        tx_addr: [0xE7, 0xE7, 0xE7, 0xE7, 0xE7],
+        lengths: [0x00, 0x00, 0x00, 0x00, 0x01, 0x01],
+        fault: Some(0x0F),
+    },
+    // receiver, all payload lengths 0
+    Setup {
+        config_crc8: 0x09,
+        config_crc16: 0x0D,
+        en_aa: 0x3F,
+        en_rxaddr: 0x3F,
+        setup_aw: 0x03,
+        rx_addr_p0: [0xE7, 0xE7, 0xE7, 0xE7, 0xE7],
+        rx_addr_p1: [0xC2, 0xC2, 0xC2, 0xC2, 0xC2],
+        low_bytes: [0xC3, 0xC4, 0xC5, 0xC6],
+        tx_addr: [0xE7, 0xE7, 0xE7, 0xE7, 0xE7],
+        lengths: [0x00, 0x00, 0x00, 0x00, 0x00, 0x00],
+        fault: Some(0x11),
+    },
+];
