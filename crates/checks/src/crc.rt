@@ -52,7 +52,7 @@ impl Register for u16 {
 
 // The register after the first n bits, after all if there are fewer.
 fn remainder<R: Register>(bytes: &[u8], n: usize, polynomial: R, start: R) -> R
-    ensures { held result ≡ run wide (held polynomial) (held start) (take n (bits bytes.now)) }
+    ensures { R.held result ≡ run R.wide (R.held polynomial) (R.held start) (take n (bits bytes.now)) }
 {
     let mut register = start;
     for i in 0..n {

@@ -57,8 +57,8 @@ pub trait Check {
 
 // The check of the first n bits as a plain number.
 pub fn number_of<C: Check>(bytes: &[u8], n: usize) -> u16
-    ensures value { result ≡ meaning (take n (bits bytes.now)) }
-    ensures below { result < 2 ^ width }
+    ensures value { result ≡ C.meaning (take n (bits bytes.now)) }
+    ensures below { result < 2 ^ C.width }
 {
     C::of(bytes, n).number()
 }

@@ -5,7 +5,7 @@ use Rattle.checks.specs.Places.{bits_at, length_bits}
 use Rattle.checks.proofs.bits.bit_at.Goals as goal
 
 pub returns-then-i-bytes : goal.returns-then-i-bytes
-returns-then-i-bytes c = c.bit-of.ensures ∙ sym (bits_at c.args.bytes.now c.args.i)
+returns-then-i-bytes c = c.bit_of.ensures ∙ sym (bits_at c.args.bytes.now c.args.i)
 
 pub returns-else-i-bytes : goal.returns-else-i-bytes
 returns-else-i-bytes c =

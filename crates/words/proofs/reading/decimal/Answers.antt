@@ -23,7 +23,7 @@ loop-c-preserved c =
     let i = c.loop-c.c-index in
     let n = c.loop-c.n in
     let now : decimal_after n (drop i w) ≡ then (one_more n (get_or w i 0)) (drop (i + 1) w) = at_drop_more (decimal_after n) w i 0 c.loop-c-test.true in
-    c.loop-c.invariant ∙ now ∙ ap (λ o. then o (drop (i + 1) w)) (sym c.one-more.ensures ∙ c.in-ok-n.was)
+    c.loop-c.invariant ∙ now ∙ ap (λ o. then o (drop (i + 1) w)) (sym c.one_more.ensures ∙ c.in_ok-n.was)
 
 pub returns : goal.returns
 returns c =

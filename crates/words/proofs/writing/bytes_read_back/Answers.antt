@@ -3,6 +3,6 @@ use Rattle.words.proofs.writing.bytes_read_back.Goals as goal
 
 pub returns : goal.returns
 returns c = record {
-  apart = apart c.args.bytes.now (λ i. (c.type-inv.bytes i).fits);
-  joined = joined c.args.bytes.now (λ i. (c.type-inv.bytes i).fits);
+  apart = apart c.args.bytes.now (λ i. (c.ok.bytes i).fits);
+  joined = joined c.args.bytes.now (λ i. (c.ok.bytes i).fits);
 }

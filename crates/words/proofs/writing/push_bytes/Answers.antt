@@ -8,7 +8,7 @@ loop-b-preserved c =
     let bs = c.args.bytes.now in
     let i = c.loop-b.b-index in
     let old = vec_items c.loop-b.out in
-    let new = c.in-ok-push-apart.ensures.is in
+    let new = c.in_ok-push_apart.ensures.is in
     let opened : bytes_shown (drop i bs) ≡ (32 ∷ byte_shown (get_or bs i 0)) ++ bytes_shown (drop (i + 1) bs) = at_drop_more bytes_shown bs i 0 c.loop-b-test.true in
     ap (λ l. l ++ bytes_shown (drop (i + 1) bs)) new ∙ append_assoc old _ _ ∙ ap (λ l. old ++ l) (sym opened) ∙ c.loop-b.invariant
 
@@ -18,5 +18,5 @@ returns c = record {
     is =
         sym (append-nil _) ∙ ap (λ l. vec_items c.loop-b.out ++ l) (sym (at_drop_all bytes_shown c.args.bytes.now c.loop-b.b-index c.loop-b-test.false)) ∙ c.loop-b.invariant;
   };
-  reads = c.bytes-read-back.ensures.apart;
+  reads = c.bytes_read_back.ensures.apart;
 }
