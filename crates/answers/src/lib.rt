@@ -1,4 +1,6 @@
 // The texts of what units answer and lack, and of profiles.
+#![tactic(auto)]
+
 mod profiles;
 mod texts;
 

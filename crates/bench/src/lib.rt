@@ -1,4 +1,6 @@
 // The bench unit: registers at reset, register commands, profiles, and the check before boxing.
+#![tactic(auto)]
+
 mod checking;
 mod commanding;
 mod live;

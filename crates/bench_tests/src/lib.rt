@@ -1,4 +1,6 @@
 // Calls on a bench unit against answers that an independent program reckoned.
+#![tactic(auto)]
+
 #[cfg(test)]
 mod calling;
 mod case;

@@ -1,4 +1,6 @@
 // The cell: one receiver, one to six senders, and the air between them.
+#![tactic(auto)]
+
 mod air;
 mod parts;
 mod refusal;

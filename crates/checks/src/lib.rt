@@ -1,4 +1,6 @@
 // What a check is, and the two kinds that are delivered.
+#![tactic(auto)]
+
 mod bits;
 mod crc;
 mod kind;

@@ -1,3 +1,5 @@
+#![tactic(auto)]
+
 mod command;
 mod decoding;
 mod flags;

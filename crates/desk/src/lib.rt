@@ -1,4 +1,6 @@
 // The units under their labels, and what lines do to them.
+#![tactic(auto)]
+
 mod answer;
 mod calling;
 mod slot;

@@ -1,4 +1,6 @@
 // The law over every list of calls on a cell: its statement stands in specs/, its proof in proofs/.
+#![tactic(auto)]
+
 mod laws;
 mod weakened;
 

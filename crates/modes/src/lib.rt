@@ -1,4 +1,6 @@
 // The modes of a boxed unit, its flags and its counters: what CE, ticks, acknowledgements and flushes do to them.
+#![tactic(auto)]
+
 mod core;
 mod laws;
 mod running;

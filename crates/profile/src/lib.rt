@@ -1,4 +1,6 @@
 // Vehicle profiles: a map of the registers that are named, and a field for each.
+#![tactic(auto)]
+
 mod fields;
 mod map;
 

@@ -1,3 +1,5 @@
+#![tactic(auto)]
+
 mod queue;
 
 ghost use Rattle.std.specs.Prelude.{◌≡◌, ◌≤◌, [], length, ◌==◌};

@@ -1,4 +1,4 @@
-ghost use Rattle.std.specs.Prelude.{◌≡◌, ◌<◌, Some, Decides};
+ghost use Rattle.std.specs.Prelude.{◌≡◌, ◌<◌, Some, Decides, ◌==◌};
 ghost use Rattle.registers.specs.Address.{address_of, register_at};
 ghost use Rattle.std.specs.Cmp.Rules.{comparing};
 ghost use Rattle.std.proofs.Common.{rules};
@@ -7,11 +7,14 @@ ghost use Rattle.std.specs.Cmp as Keys;
 use crate::register::Register;
 
 impl PartialEq for Register {
-    ghost equals = { λ x y r. Decides r (x ≡ y) };
+    ghost eq = { λ x y. address_of x == address_of y };
 
     ghost laws = { Keys.partial_equiv_from_equiv (Prim.search (comparing, rules)) };
 
-    fn eq(&self, other: &Register) -> bool {
+    fn eq(&self, other: &Register) -> bool
+        ensures value { result ≡ (address_of self.now == address_of other.now) }
+        ensures same { Decides result (self.now ≡ other.now) }
+    {
         self.address() == other.address()
     }
 }

@@ -1,3 +1,5 @@
+#![tactic(auto)]
+
 mod address;
 mod bits;
 mod count;

@@ -1,4 +1,6 @@
 // Lines carried out, and the texts of their results.
+#![tactic(auto)]
+
 mod carrying;
 mod rows;
 mod texts;

@@ -1,4 +1,6 @@
 // The console as a library: it takes a script line by line, carries it out and prints the results.
+#![tactic(auto)]
+
 mod feeding;
 mod running;
 

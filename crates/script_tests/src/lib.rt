@@ -1,4 +1,6 @@
 // Scripts as text in and results as text out: each reason for a `cannot`, and the ways a line can end.
+#![tactic(auto)]
+
 #[cfg(test)]
 mod tests {
     use script::{Console, feed};

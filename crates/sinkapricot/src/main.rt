@@ -1,4 +1,6 @@
 // Reads scripts, from the files named or else from standard input, and prints the result of each line.
+#![tactic(auto)]
+
 use script::{Console, Halt, feed};
 use std::fs::File;
 use std::io::{BufWriter, Write};

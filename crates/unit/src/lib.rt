@@ -1,4 +1,6 @@
 // The boxed unit.
+#![tactic(auto)]
+
 mod boxing;
 mod commanding;
 mod entries;

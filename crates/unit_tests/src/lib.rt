@@ -1,4 +1,6 @@
 // Boxed units against answers that an independent model gave.
+#![tactic(auto)]
+
 pub mod table;
 
 #[cfg(test)]
