@@ -16,5 +16,5 @@ returns c =
     let a = c.args.answer.now in
     let h : length a < length b = omega arith in
     let room = le-ltb (length b) (1 + length a) (omega arith) in
-    let p = placed b a c.copy-from-slice.new.self c.args.status h c.copy-from-slice.ensures.after in
+    let p = placed b a c.copy_from_slice.new.self c.args.status h c.copy_from_slice.ensures.after in
     record { answer = search rules; after = simp room p }
