@@ -1,9 +1,9 @@
 -- The burst law of every cyclic redundancy check whose polynomial has its low bit set, over the width.
 -- Assumes nothing.
-use Rattle.std.specs.Prelude.{◌≡◌, ℕ, zero, suc, pred, ◌+◌, ◌-◌, ◌*◌, ◌/◌, ◌%◌, ◌^◌, ◌<◌, ◌≤◌, Bool, true, false, cond, not, List, [], ◌∷◌, ◌++◌, length, ◌==◌, bit_xor, nat_eq, refl}
-use Rattle.std.proofs.Common.{sym, ◌∙◌, ap₂, append_assoc, mod-lt, mod-eq_of_lt, sub-add_cancel, mul-one, mul_assoc, pow-suc, arith, pow_pos, shr-shr, shr_lt}
+use Rattle.std.specs.Prelude.{◌≡◌, ℕ, zero, suc, ◌+◌, ◌-◌, ◌*◌, ◌/◌, ◌%◌, ◌^◌, ◌<◌, ◌≤◌, Bool, true, false, cond, List, [], ◌∷◌, ◌++◌, length, ◌==◌, bit_xor, nat_eq, refl}
+use Rattle.std.proofs.Common.{sym, ◌∙◌, ap₂, mod-lt, mod-eq_of_lt, mul-one, mul_assoc, pow-suc, arith, pow_pos, shr-shr, shr_lt}
 use Rattle.std.proofs.Math.Path.{ap, subst}
-use Rattle.std.proofs.Math.Nat.{mul-mod_left, mul-div_left, mod-mod}
+use Rattle.std.proofs.Math.Nat.{mul-mod_left, mod-mod}
 use Rattle.std.specs.Int.Bits.{xor_mod, xor_assoc, xor_self, xor_zero_r}
 use Rattle.std.proofs.lemmas.Nat.{xor_lt, mod-pow-add, shl-shr}
 use Rattle.std.proofs.Math.Pow.{mod-mod-pow, field, split}

@@ -1,10 +1,10 @@
 -- First in, first out, over every list of calls.
 -- Assumes nothing.
-use Rattle.std.proofs.Common.{◌≡◌, List, [], ◌∷◌, ◌++◌, sym, refl, ap, ◌∙◌, append_assoc, append-nil}
+use Rattle.std.proofs.Common.{[], ◌∷◌, ◌++◌, sym, ap, ◌∙◌, append_assoc, append-nil}
 use Rattle.queue.specs.declared.queue.Queue.{Queue}
 use Rattle.queue.specs.declared.queue.Queue.TheVariants.{Empty, One, Two, Three}
-use Rattle.queue.specs.Entries.{entries, pushed, popped}
-use Rattle.queue.specs.Order.{Call, pushes, pops, clears, run, came, left, FirstInFirstOut}
+use Rattle.queue.specs.Entries.{entries}
+use Rattle.queue.specs.Order.{pushes, pops, clears, run, left, FirstInFirstOut}
 
 pub fifo : {T : Type 0} (q : Queue T) → FirstInFirstOut q
 fifo q [] = sym (append-nil (entries q))
