@@ -1,5 +1,5 @@
 -- The host's commands: the first byte decides, and the rest are data.
-use Rattle.std.specs.Prelude.{ℕ, ◌-◌, Bool, true, false, cond, ◌&&◌, List, [], ◌∷◌, length, Some, None, Ok, Err, Option, Result, ◌==◌, nat_le, nat_lt}
+use Rattle.std.specs.Prelude.{ℕ, ◌-◌, Bool, cond, ◌&&◌, List, [], ◌∷◌, length, Some, None, Ok, Err, Option, Result, ◌==◌, nat_le, nat_lt}
 use Rattle.registers.specs.declared.register.Register.{Register}
 use Rattle.registers.specs.Address.{register_at}
 use Rattle.registers.specs.Table.{size_of}

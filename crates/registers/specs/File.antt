@@ -1,5 +1,5 @@
 -- The file of registers: what each register holds.
-use Rattle.std.specs.Prelude.{◌≡◌, ℕ, ◌<◌, true, false, cond, List, [], ◌∷◌, ◌++◌, map, length, take, drop, replicate, ◌==◌, ◌≢◌, slice_index, slice_index_or, slice_set}
+use Rattle.std.specs.Prelude.{◌≡◌, ℕ, true, false, cond, List, [], ◌++◌, map, length, take, drop, replicate, ◌==◌, ◌≢◌, slice_index, slice_index_or, slice_set}
 use Rattle.registers.specs.declared.register.Register.{Register}
 use Rattle.registers.specs.declared.register.Register.TheVariants.{Status}
 use Rattle.registers.specs.declared.held.Value.{Value}

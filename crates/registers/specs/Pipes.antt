@@ -1,5 +1,5 @@
 -- The pipes, their numbers and their registers.
-use Rattle.std.specs.Prelude.{ℕ, List, [], ◌∷◌, Option}
+use Rattle.std.specs.Prelude.{ℕ, [], ◌∷◌, Option}
 use Rattle.std.specs.List.{slice_get}
 use Rattle.registers.specs.declared.pipe.Pipe.{Pipe}
 use Rattle.registers.specs.declared.pipe.Pipe.TheVariants.{P0, P1, P2, P3, P4, P5}

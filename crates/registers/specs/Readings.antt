@@ -1,5 +1,5 @@
 -- What the registers' bits and bytes say.
-use Rattle.std.specs.Prelude.{ℕ, ◌+◌, cond, List, [], ◌∷◌, drop}
+use Rattle.std.specs.Prelude.{ℕ, ◌+◌, cond, List, ◌∷◌, drop}
 use Rattle.registers.specs.declared.held.Registers.{Registers}
 use Rattle.registers.specs.declared.pipe.Pipe.{Pipe}
 use Rattle.registers.specs.declared.pipe.Pipe.TheVariants.{P0, P1, P2, P3, P4, P5}

@@ -1,6 +1,5 @@
-use Rattle.std.proofs.Common.{◌≡◌, ℕ, ◌<◌, List, [], length, get_or, sym, refl, ap, subst, arith, rules}
+use Rattle.std.proofs.Common.{◌≡◌, ℕ, ◌<◌, List, [], length, get_or, sym, ap, subst, arith, rules}
 use Rattle.std.proofs.lemmas.List.FromFn.{fill_by_all}
-use Rattle.registers.specs.declared.register.Register.{Register}
 use Rattle.registers.specs.declared.held.Value.{Value}
 use Rattle.registers.specs.declared.held.Registers.{Registers}
 use Rattle.registers.specs.Table.{entry_at}

@@ -1,9 +1,8 @@
 use Rattle.std.proofs.Common.{◌≡◌, List, length, set, sym, subst, rules}
 use Rattle.registers.specs.declared.held.Value.{Value}
-use Rattle.registers.specs.declared.held.Registers.{Registers}
 use Rattle.registers.specs.Address.{address_of}
 use Rattle.registers.specs.Table.{size_of}
-use Rattle.registers.specs.File.{padded, written, Holds}
+use Rattle.registers.specs.File.{padded, Holds}
 use Rattle.registers.proofs.Holding.{holds}
 use Rattle.registers.proofs.held.Registers.write.Goals as goal
 
