@@ -1,4 +1,6 @@
 // Lines cut into words, numbers and bytes read from words, and their texts.
+#![tactic(auto)]
+
 mod reading;
 mod split;
 mod writing;
