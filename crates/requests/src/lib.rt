@@ -1,4 +1,6 @@
 // What the lines of a script ask for.
+#![tactic(auto)]
+
 mod label;
 mod lines;
 mod reading;
