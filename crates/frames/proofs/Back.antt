@@ -1,5 +1,5 @@
 -- A packed frame is read back.
-use Rattle.std.proofs.Common.{◌≡◌, ℕ, ◌*◌, ◌^◌, ◌<◌, ◌≤◌, Bool, List, length, take, Some, None, Ok, Err, Option, Result, sym, refl, ap, ◌∙◌, ap₂, arith}
+use Rattle.std.proofs.Common.{◌≡◌, ℕ, ◌^◌, ◌<◌, ◌≤◌, Bool, List, length, take, Some, Ok, Err, Option, Result, ap, ◌∙◌, ap₂, arith}
 use Rattle.checks.specs.Bits.{bits}
 use Rattle.frames.specs.declared.fields.Heard.{Heard}
 use Rattle.frames.specs.declared.fields.Refusal.{Refusal}

@@ -1,8 +1,7 @@
 -- Reading the first n bits of more.
-use Rattle.std.proofs.Common.{◌≡◌, ℕ, ◌+◌, ◌-◌, ◌*◌, ◌^◌, ◌<◌, ◌≤◌, Bool, true, false, cond, ◌&&◌, eqb, leb, List, [], ◌∷◌, ◌++◌, reverse, length, get_or, take, drop, Some, None, Option, sym, refl, ap, ◌∙◌, subst, ap₂, arith}
+use Rattle.std.proofs.Common.{◌≡◌, ℕ, ◌+◌, ◌*◌, ◌^◌, ◌<◌, ◌≤◌, Bool, true, false, cond, ◌&&◌, eqb, leb, List, ◌++◌, reverse, length, get_or, take, drop, Some, None, Option, sym, ap, ◌∙◌, ap₂, arith}
 use Rattle.std.proofs.lemmas.List.{length-drop, length-take-le, take-append-drop, drop-append-le, take-append-le, get_or_append_left, drop-take}
 use Rattle.std.proofs.lemmas.Bool.{le-leb, eq-eqb, ne_eqb, lt-leb, and_from, and_left, and_right}
-use Rattle.checks.specs.Bits.{word, bits}
 use Rattle.frames.specs.Octets.{number, octets}
 use Rattle.frames.specs.Packet.{Packet, covered, length_field, count_fits, check_right, fields_at, reading}
 use Rattle.frames.proofs.Octets.{octets_front, length_octets}

@@ -7,7 +7,7 @@ use Rattle.std.proofs.lemmas.List.Edits.{paste_all}
 use Rattle.checks.specs.Bits.{word, bits}
 use Rattle.checks.specs.Places.{length_word, length_bits}
 use Rattle.frames.specs.Octets.{octets}
-use Rattle.frames.specs.Packet.{Packet, control, covered, with_check, preamble, frame_bits, buffer_after}
+use Rattle.frames.specs.Packet.{Packet, control, covered, preamble, frame_bits, buffer_after}
 use Rattle.frames.proofs.Places.{then_put, bits_append}
 use Rattle.frames.proofs.Octets.{bits_drop, front_octets, bits_octets, length_octets}
 

@@ -1,5 +1,5 @@
 -- Numbers and bytes from bits, and back.
-use Rattle.std.proofs.Common.{◌≡◌, ℕ, zero, suc, ◌+◌, ◌-◌, ◌*◌, ◌/◌, ◌%◌, ◌^◌, ◌<◌, ◌≤◌, Bool, true, false, eqb, List, [], ◌∷◌, ◌++◌, length, get_or, take, drop, set, replicate, sym, refl, ap, ◌∙◌, ap₂, le_trans, lt_of_lt_of_le, mul-le-mul_right, mod-eq_of_lt, mul_assoc, add-mul, suc-add, pow-suc, zero-add, one-add, arith, length-append, take-add, pow_mono}
+use Rattle.std.proofs.Common.{◌≡◌, ℕ, zero, suc, ◌+◌, ◌*◌, ◌/◌, ◌%◌, ◌^◌, ◌<◌, ◌≤◌, Bool, true, false, eqb, List, [], ◌∷◌, ◌++◌, length, get_or, take, drop, set, replicate, sym, refl, ap, ◌∙◌, ap₂, mul-le-mul_right, mod-eq_of_lt, mul_assoc, add-mul, suc-add, pow-suc, zero-add, one-add, arith, take-add, pow_mono}
 use native.Mathlib.Nat.{mod-one, zero-div, zero-mod}
 use lib.Seq.{paste, drop-nil}
 use Rattle.std.proofs.lemmas.Nat.{mod-pow-add}
@@ -8,7 +8,7 @@ use Rattle.std.proofs.lemmas.List.Edits.{paste_all}
 use Rattle.std.proofs.lemmas.Bool.Decides.{nat_tests}
 use Rattle.checks.specs.Bits.{bit, word, bits}
 use Rattle.frames.specs.Octets.{digit, number_after, number, octets}
-use Rattle.checks.specs.Places.{length_word, length_bits}
+use Rattle.checks.specs.Places.{length_word}
 
 digit_bit : (x : ℕ) → digit (eqb (x % 2) 1) ≡ x % 2
 digit_bit x = grind (arith, nat_tests)

@@ -1,11 +1,11 @@
 -- What is read is exactly what was packed.
-use Rattle.std.proofs.Common.{◌≡◌, ℕ, ◌+◌, ◌-◌, ◌*◌, ◌^◌, ◌<◌, ◌≤◌, Bool, true, false, cond, ◌&&◌, eqb, leb, List, [], ◌∷◌, ◌++◌, reverse, length, get_or, take, drop, Some, None, Option, sym, refl, ap, ◌∙◌, subst, ap₂, inl, inr, add-zero, arith, length-append}
+use Rattle.std.proofs.Common.{◌≡◌, ℕ, ◌+◌, ◌-◌, ◌*◌, ◌^◌, ◌<◌, ◌≤◌, Bool, true, false, cond, ◌&&◌, List, [], ◌∷◌, ◌++◌, reverse, length, get_or, take, drop, Some, None, Option, sym, refl, ap, ◌∙◌, subst, ap₂, inl, inr, add-zero, arith, length-append}
 use Rattle.std.proofs.lemmas.List.{append_assoc, length-reverse, reverse-reverse, length-drop, length-take, length-take-le, get_or-drop, get_or-reverse, get_or_past, take-append-drop, drop-drop, drop_more, take_at, drop_at}
 use Rattle.std.proofs.lemmas.Bool.{leb-true, eqb-true, le-leb, eq-eqb, and_parts, and_from, cases_lt, cond-true, cond-false}
 use Rattle.checks.specs.Bits.{word, bits}
 use Rattle.checks.specs.Places.{length_word, length_bits}
 use Rattle.frames.specs.Octets.{number, octets}
-use Rattle.frames.specs.Packet.{Packet, Valid, Bytes, control, covered, with_check, preamble, frame_bits, length_field, count_fits, check_right, fields_read, reading}
+use Rattle.frames.specs.Packet.{Packet, Valid, Bytes, covered, with_check, preamble, frame_bits, length_field, count_fits, check_right, fields_read, reading}
 use Rattle.frames.specs.Calls.{Exactly}
 use Rattle.frames.proofs.Octets.{number_back, number_below, word_number, bits_octets, octets_front, octets_back, length_octets, octets_bytes}
 use Rattle.frames.proofs.Lay.{length_covered}

@@ -1,11 +1,11 @@
 -- Places of bits in bytes.
-use Rattle.std.proofs.Common.{◌≡◌, ℕ, zero, suc, ◌+◌, ◌-◌, ◌*◌, ◌/◌, ◌%◌, ◌^◌, ◌<◌, ◌≤◌, Bool, true, false, eqb, List, [], ◌∷◌, ◌++◌, length, get_or, take, set, sym, refl, ap, ◌∙◌, arith, length-append}
+use Rattle.std.proofs.Common.{◌≡◌, ℕ, zero, suc, ◌+◌, ◌-◌, ◌*◌, ◌<◌, ◌≤◌, Bool, false, List, [], ◌∷◌, ◌++◌, length, get_or, take, set, sym, refl, ap, ◌∙◌, arith}
 use lib.Seq.{paste}
 use Rattle.std.proofs.lemmas.List.Edits.{paste-paste}
 use Rattle.std.proofs.lemmas.List.{append_assoc, append-nil, take_more, length-take-le, get_or_append_left, get_or-append_right, set-append_left, set-append_right}
 use Rattle.checks.specs.Bits.{bit, word, bits}
 use Rattle.checks.specs.Places.{length_word, length_bits}
-use Rattle.frames.specs.Octets.{digit, number_after, number}
+use Rattle.frames.specs.Octets.{digit, number_after}
 
 pub getD_word : (n v j : ℕ) → j < n → get_or (word n v) j false ≡ bit v (n - 1 - j)
 unfolding word

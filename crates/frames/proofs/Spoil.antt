@@ -1,8 +1,8 @@
 -- A change within w consecutive bits shows.
-use Rattle.std.proofs.Common.{◌≡◌, ℕ, zero, suc, ◌+◌, ◌^◌, ◌<◌, ◌≤◌, Bool, true, false, ◌⊎◌, List, [], ◌∷◌, ◌++◌, length, take, drop, Some, None, Option, sym, refl, ap, ◌∙◌, subst, ap₂, inl, inr, suc-le-suc, zero-le, arith, take-append-drop}
+use Rattle.std.proofs.Common.{◌≡◌, ℕ, zero, suc, ◌^◌, ◌<◌, ◌≤◌, Bool, true, false, ◌⊎◌, List, [], ◌∷◌, ◌++◌, length, take, drop, Some, None, Option, sym, refl, ap, ◌∙◌, subst, inl, inr, suc-le-suc, zero-le, arith, take-append-drop}
 use Rattle.checks.specs.Crc.{differs}
 use Rattle.checks.specs.Burst.{EndsInOwnCheck, Burst}
-use Rattle.frames.specs.Packet.{Packet, Valid, covered, with_check, frame_bits, reading}
+use Rattle.frames.specs.Packet.{covered, frame_bits, reading}
 use Rattle.frames.specs.Damage.{flip, changed, DamageShows}
 use Rattle.frames.proofs.Parse.{after_preamble, reads_all, reads_only}
 

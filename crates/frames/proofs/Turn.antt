@@ -1,10 +1,9 @@
 -- A pattern combined in bit by bit.
-use Rattle.std.proofs.Common.{◌≡◌, ℕ, zero, suc, ◌+◌, ◌-◌, ◌*◌, ◌/◌, ◌%◌, ◌^◌, ◌<◌, ◌≤◌, Bool, true, false, not, eqb, ◌⊎◌, List, [], ◌∷◌, ◌++◌, length, get_or, take, drop, set, replicate, sym, refl, ap, ◌∙◌, subst, ap₂, inl, inr, add_comm, suc-add, zero-add, arith, length-append, shr-shr}
+use Rattle.std.proofs.Common.{◌≡◌, ℕ, zero, suc, ◌+◌, ◌/◌, ◌%◌, ◌^◌, ◌<◌, ◌≤◌, Bool, true, false, not, eqb, ◌⊎◌, List, [], ◌∷◌, ◌++◌, length, get_or, take, drop, set, replicate, sym, refl, ap, ◌∙◌, ap₂, inl, inr, add_comm, suc-add, zero-add, arith, length-append, shr-shr}
 use Rattle.std.proofs.lemmas.Bool.{cases_lt}
 use Rattle.std.proofs.lemmas.List.{take-append-drop, take_at, length-take-le, length-take, length-drop, set-append_left, set_past, set-get_or, get_or_append_left}
-use Rattle.checks.specs.Bits.{bit, word}
+use Rattle.checks.specs.Bits.{word}
 use Rattle.checks.specs.Crc.{differs}
-use Rattle.checks.specs.Places.{length_word}
 use Rattle.frames.specs.Damage.{flip, changed}
 use Rattle.frames.proofs.Octets.{word_low}
 use Rattle.frames.proofs.Spoil.{flip_none, flip_nil, length_flip}

@@ -12,7 +12,7 @@ use Rattle.frames.specs.declared.fields.Fields.{Fields}
 use Rattle.frames.specs.declared.fields.Heard.{Heard}
 use Rattle.frames.specs.declared.fields.Refusal.{Refusal}
 use Rattle.frames.specs.declared.fields.Refusal.TheVariants.{FrameBytes}
-use Rattle.frames.specs.Packet.{Packet, Valid, covered, with_check, frame_bits, buffer_after, reading}
+use Rattle.frames.specs.Packet.{Packet, Valid, covered, frame_bits, buffer_after, reading}
 
 -- ---- what the types mean
 

@@ -1,5 +1,5 @@
 -- A frame changed on its way.
-use Rattle.std.specs.Prelude.{◌≡◌, ℕ, ◌-◌, ◌%◌, ◌^◌, ◌<◌, ◌≤◌, Bool, ◌⊎◌, List, [], ◌∷◌, ◌++◌, length, take, drop, Some, None, Option}
+use Rattle.std.specs.Prelude.{◌≡◌, ℕ, ◌-◌, ◌%◌, ◌^◌, ◌≤◌, Bool, ◌⊎◌, List, [], ◌∷◌, ◌++◌, length, take, drop, Some, None}
 use Rattle.checks.specs.Bits.{word}
 use Rattle.checks.specs.Crc.{differs}
 use Rattle.frames.specs.Packet.{Packet, Valid, frame_bits, reading}

@@ -1,5 +1,5 @@
 -- What a frame carries, and its bits.
-use Rattle.std.specs.Prelude.{◌≡◌, ℕ, ◌+◌, ◌*◌, ◌/◌, ◌<◌, ◌≤◌, Bool, true, false, cond, ◌&&◌, List, [], ◌∷◌, ◌++◌, reverse, length, take, drop, replicate, Some, None, Option, ◌==◌, nat_eq, nat_le, slice_index, slice_index_or}
+use Rattle.std.specs.Prelude.{◌≡◌, ℕ, ◌+◌, ◌*◌, ◌/◌, ◌<◌, ◌≤◌, Bool, false, cond, ◌&&◌, List, [], ◌∷◌, ◌++◌, reverse, length, take, drop, replicate, Some, None, Option, ◌==◌, nat_eq, nat_le, slice_index, slice_index_or}
 use Rattle.checks.specs.Bits.{word, bits}
 use Rattle.frames.specs.Octets.{number, octets}
 

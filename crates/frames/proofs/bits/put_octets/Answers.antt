@@ -1,5 +1,4 @@
-use Rattle.std.proofs.Common.{◌≡◌, ℕ, ◌*◌, ◌≤◌, List, [], length, take, ap, ◌∙◌, arith}
-use lib.Seq.{paste}
+use Rattle.std.proofs.Common.{◌≡◌, [], length, take, arith}
 use Rattle.std.proofs.lemmas.List.Edits.{paste_none}
 use Rattle.std.proofs.lemmas.List.{take_all}
 use Rattle.checks.specs.Bits.{bits}
@@ -13,7 +12,7 @@ loop-i-init c = paste_none (bits c.args.buf.now) c.args.at (bits [])
 pub loop-i-preserved : goal.loop-i-preserved
 loop-i-preserved c =
     octet_more (bits c.args.buf.now) _ _ c.args.at c.loop-i.i _ c.args.src.now (omega arith)
-    (omega (arith, length_bits c.args.buf.now)) c.from.ensures c.loop-i.invariant c.put-bits.ensures
+    (omega (arith, length_bits c.args.buf.now)) c.from.ensures c.loop-i.invariant c.put_bits.ensures
 
 pub returns : goal.returns
 returns c =
