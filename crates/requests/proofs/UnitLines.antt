@@ -1,5 +1,5 @@
 -- The lines for units and profiles: what the words ask for, and what is made of them.
-use Rattle.std.proofs.Common.{◌≡◌, ℕ, ◌+◌, ◌≤◌, Bool, true, false, cond, eqb, ltb, List, [], ◌∷◌, length, get_or, drop, Some, None, Ok, Err, codes, Option, Result, sym, refl, ap, ◌∙◌, subst, arith}
+use Rattle.std.proofs.Common.{◌≡◌, ℕ, ◌≤◌, Bool, true, false, cond, eqb, ltb, List, [], ◌∷◌, length, get_or, drop, Some, None, Ok, Err, codes, Option, Result, sym, refl, ap, ◌∙◌, subst, arith}
 use Rattle.std.specs.Str.{bytes_eq}
 use Rattle.std.proofs.lemmas.Bool.{le-ltb, ltb-false, eqb-true}
 use Rattle.words.specs.Numbers.{hex_digit, paired, pair_of, byte_of, decimal_of}
@@ -9,7 +9,7 @@ use Rattle.requests.specs.declared.lines.Form.TheVariants as form
 use Rattle.requests.specs.declared.lines.Cannot.{Cannot}
 use Rattle.requests.specs.declared.lines.Cannot.TheVariants.{Word, TooFew, TooMany}
 use Rattle.requests.specs.declared.lines.Wanted.TheVariants as want
-use Rattle.requests.specs.Lines.{UnitRequest, bench, load, check, box, irq, command, Request, field, unit, then, or_else, number_in, as_bytes, label_of, register_of, room_number, room_behind, room_of, plain_line, field_line, load_line, command_with, command_line, unit_form_named, line_as}
+use Rattle.requests.specs.Lines.{UnitRequest, bench, load, check, box, irq, command, Request, field, unit, then, or_else, as_bytes, label_of, register_of, room_number, room_of, plain_line, field_line, load_line, command_with, command_line, unit_form_named, line_as}
 use Rattle.requests.specs.Grammar.{Labels, Write, Asks, fields, benches, checks, boxes, irqs, loads, commands, commands_with}
 use Rattle.requests.proofs.Steps.{never, ok_same, then_ok, unless, number_fits, number_parts, bytes_fit, bytes_parts, named}
 

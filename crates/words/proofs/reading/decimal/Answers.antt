@@ -7,13 +7,13 @@ use Rattle.words.proofs.reading.decimal.Goals as goal
 abbrev then : Option ℕ → List ℕ → Option ℕ
 then o w = elim o [ Some m ↦ decimal_after m w | None ↦ None ]
 
-pub returns-in-err-n : goal.returns-in-err-n
-returns-in-err-n c =
+pub returns-in_err-n : goal.returns-in_err-n
+returns-in_err-n c =
     let w = c.args.word.now in
     let i = c.loop-c.c-index in
     let n = c.loop-c.n in
     let now : decimal_after n (drop i w) ≡ then (one_more n (get_or w i 0)) (drop (i + 1) w) = at_drop_more (decimal_after n) w i 0 c.loop-c-test.true in
-    let none : then (one_more n (get_or w i 0)) (drop (i + 1) w) ≡ None = ap (λ o. then o (drop (i + 1) w)) (sym c.one-more.ensures ∙ c.in-err-n.was) in
+    let none : then (one_more n (get_or w i 0)) (drop (i + 1) w) ≡ None = ap (λ o. then o (drop (i + 1) w)) (sym c.one_more.ensures ∙ c.in_err-n.was) in
     let all : decimal_after 0 w ≡ None = c.loop-c.invariant ∙ now ∙ none in
     search rules
 

@@ -4,8 +4,8 @@ use Rattle.words.specs.Split.{texts}
 use Rattle.words.proofs.Cuts.{ended_some}
 use Rattle.words.proofs.split.close.Goals as goal
 
-pub returns-in-ok-push : goal.returns-in-ok-push
-returns-in-ok-push c =
+pub returns-in_ok-push : goal.returns-in_ok-push
+returns-in_ok-push c =
     let part = take (c.args.end - c.args.start) (drop c.args.start c.args.line.now) in
     let long : length part ≡ c.args.end - c.args.start = length-take-le _ _ (omega (arith, length-drop c.args.start c.args.line.now)) in
-    ap texts c.in-ok-push.ensures.items ∙ map-append (λ x. x.now) (vec_items c.args.out.now) _ ∙ ap (λ l. texts (vec_items c.args.out.now) ++ l) (sym (ended_some part (omega (arith, long))))
+    ap texts c.in_ok-push.ensures.items ∙ map-append (λ x. x.now) (vec_items c.args.out.now) _ ∙ ap (λ l. texts (vec_items c.args.out.now) ++ l) (sym (ended_some part (omega (arith, long))))

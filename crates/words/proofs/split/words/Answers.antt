@@ -11,8 +11,8 @@ returns-then-c-eq35 c = let value = end_at_hash _ _ _ _ c.loop-i-test.true c.loo
 pub loop-i-preserved : goal.loop-i-preserved
 loop-i-preserved c =
     elim c.if-is_blank.branch [
-      | then-is_blank+in_ok-close-2 w ↦ after_blank _ _ _ _ c.loop-i-test.true c.loop-i.invariant _ _ c.if-c-eq35.false w.if-is-blank.ensures w.start-is (ap (λ v. texts (vec_items v)) w.out-is ∙ w.in-ok-close-2.ensures)
-      | else-is_blank w ↦ after_other _ _ _ _ c.loop-i-test.true c.loop-i.invariant _ _ c.if-c-eq35.false w.if-is-blank.ensures w.start-is (ap (λ v. texts (vec_items v)) w.out-is)
+      | then-is_blank+in_ok-close-2 w ↦ after_blank _ _ _ _ c.loop-i-test.true c.loop-i.invariant _ _ c.if-c-eq35.false w.if-is_blank.ensures w.start-is (ap (λ v. texts (vec_items v)) w.out-is ∙ w.in_ok-close-2.ensures)
+      | else-is_blank w ↦ after_other _ _ _ _ c.loop-i-test.true c.loop-i.invariant _ _ c.if-c-eq35.false w.if-is_blank.ensures w.start-is (ap (λ v. texts (vec_items v)) w.out-is)
     ]
 
 pub returns : goal.returns
