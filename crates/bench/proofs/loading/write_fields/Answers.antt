@@ -1,4 +1,4 @@
-use Rattle.std.proofs.Common.{◌≡◌, ℕ, ◌+◌, List, drop, sym, ap, ◌∙◌, arith}
+use Rattle.std.proofs.Common.{◌≡◌, ℕ, ◌+◌, drop, sym, ap, ◌∙◌, arith}
 use Rattle.registers.specs.declared.held.Registers.{Registers}
 use Rattle.registers.specs.Address.{registers}
 use Rattle.bench.specs.Loading.{fields_written}

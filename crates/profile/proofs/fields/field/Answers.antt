@@ -1,4 +1,4 @@
-use Rattle.std.proofs.Common.{◌≡◌, ℕ, ◌<◌, sym, ap, ◌∙◌, arith, rules}
+use Rattle.std.proofs.Common.{◌≡◌, ℕ, sym, ap, ◌∙◌, arith, rules}
 use Rattle.registers.specs.Table.{entry_at}
 use Rattle.profile.specs.Profile.{size_at}
 use Rattle.profile.proofs.Whole.{absent, inside}

@@ -1,4 +1,4 @@
-use Rattle.std.proofs.Common.{◌≡◌, ℕ, ap, ◌∙◌}
+use Rattle.std.proofs.Common.{ℕ, ap, ◌∙◌}
 use Rattle.bench.specs.Checking.{fault_of}
 use Rattle.bench.proofs.Lowest.{lowest}
 use Rattle.bench.proofs.unit.Bench.fault.Goals as goal

@@ -1,4 +1,4 @@
-use Rattle.std.proofs.Common.{◌≡◌, sym, ◌∙◌, subst}
+use Rattle.std.proofs.Common.{sym, ◌∙◌, subst}
 use Rattle.registers.specs.declared.held.Registers.{Registers}
 use Rattle.bench.specs.Loading.{Loaded}
 use Rattle.bench.proofs.Loads.{refuses_all, loads_all, unsound, in_fields, from_ok, from_err}

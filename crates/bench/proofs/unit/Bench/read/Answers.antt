@@ -1,4 +1,4 @@
-use Rattle.std.proofs.Common.{◌≡◌, true, eqb, List, length, ap, ◌∙◌, rules}
+use Rattle.std.proofs.Common.{◌≡◌, true, eqb, length, ap, ◌∙◌, rules}
 use Rattle.commands.specs.Reply.{reply_answer, replied}
 use Rattle.bench.specs.declared.live.Live.{Live}
 use Rattle.bench.specs.Live.{at_rest, shown}
