@@ -1,10 +1,10 @@
 -- What the registers hold after loading.
-use Rattle.std.proofs.Common.{◌≡◌, ℕ, ◌<◌, Bool, true, false, cond, not, ◌&&◌, ◌||◌, eqb, ◌⊎◌, List, [], ◌∷◌, map, length, set, Some, None, Ok, Err, Option, Result, sym, refl, ap, ◌∙◌, subst, ap₂, inl, inr, arith, length-set, rules}
+use Rattle.std.proofs.Common.{◌≡◌, ℕ, Bool, true, false, cond, not, ◌&&◌, ◌||◌, eqb, List, [], ◌∷◌, length, set, Some, None, Ok, Err, Option, Result, sym, refl, ap, ◌∙◌, subst, inl, inr, arith, length-set, rules}
 use Rattle.std.proofs.lemmas.Bool.{eqb-true, eq-eqb, ne_eqb, cases_eq}
 use Rattle.registers.specs.declared.register.Register.{Register}
 use Rattle.registers.specs.declared.held.Registers.{Registers}
 use Rattle.registers.specs.Address.{address_of, registers}
-use Rattle.registers.specs.Table.{size_of, takes, takes_low}
+use Rattle.registers.specs.Table.{size_of}
 use Rattle.registers.specs.File.{value_of, written, padded, Holds}
 use Rattle.registers.proofs.Holding.{holds, one_address}
 use Rattle.commands.specs.declared.refusal.Refusal.{Refusal}

@@ -1,6 +1,5 @@
 -- Host commands on a bench unit: the register commands and NOP.
-use Rattle.std.specs.Prelude.{ℕ, ◌+◌, Bool, true, false, cond, not, ◌&&◌, List, [], ◌∷◌, ◌++◌, length, drop, Some, None, Ok, Err, Option, Result, ◌==◌, nat_lt}
-use Rattle.registers.specs.declared.register.Register.{Register}
+use Rattle.std.specs.Prelude.{ℕ, ◌+◌, Bool, true, cond, not, List, [], ◌∷◌, ◌++◌, length, drop, Some, Ok, Err, Option, Result, ◌==◌, nat_lt}
 use Rattle.registers.specs.declared.held.Registers.{Registers}
 use Rattle.registers.specs.Address.{address_of}
 use Rattle.registers.specs.Table.{is_read_only, takes}

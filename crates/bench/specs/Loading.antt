@@ -1,5 +1,5 @@
 -- Loading a profile onto a bench unit.
-use Rattle.std.specs.Prelude.{◌≡◌, ℕ, Bool, true, false, not, List, [], ◌∷◌, map, Some, None, Option}
+use Rattle.std.specs.Prelude.{◌≡◌, ℕ, Bool, false, not, List, [], ◌∷◌, map, Some, None, Option}
 use Rattle.registers.specs.declared.register.Register.{Register}
 use Rattle.registers.specs.declared.held.Registers.{Registers}
 use Rattle.registers.specs.Address.{address_of, registers}

@@ -1,7 +1,7 @@
 -- The map's bits by counts of ones and by masks.
-use Rattle.std.proofs.Common.{◌≡◌, ℕ, zero, suc, ◌+◌, ◌-◌, ◌*◌, ◌/◌, ◌%◌, ◌^◌, ◌<◌, ◌≤◌, min, Bool, true, false, cond, not, ◌&&◌, ◌||◌, eqb, leb, ◌⊎◌, sym, refl, ap, ◌∙◌, subst, ap₂, inl, inr, ⊎_elim, lt_of_lt_of_le, mod-eq_of_lt, suc-add, one-mul, zero-add, one-add, arith, pow_pos, pow_mono}
+use Rattle.std.proofs.Common.{◌≡◌, ℕ, zero, suc, ◌+◌, ◌-◌, ◌*◌, ◌/◌, ◌%◌, ◌^◌, ◌<◌, ◌≤◌, min, Bool, true, false, cond, not, ◌&&◌, ◌||◌, eqb, leb, sym, refl, ap, ◌∙◌, subst, ap₂, inl, inr, ⊎_elim, lt_of_lt_of_le, mod-eq_of_lt, suc-add, one-mul, zero-add, one-add, arith, pow_pos, pow_mono}
 use native.Mathlib.Nat.{mod-one, div-eq_of_lt}
-use lib.Bits.{bit_and, and_shr, and_mod, and_step, and_le_l}
+use lib.Bits.{bit_and, and_shr, and_step, and_le_l}
 use lib.Count.{ones, ones_in, ones_cat}
 use Rattle.std.proofs.lemmas.Bool.{eqb-true, eq-eqb, ne_eqb, le-leb, cases_eq, cases_lt}
 use Rattle.std.proofs.lemmas.Bool.Decides.{nat_tests}

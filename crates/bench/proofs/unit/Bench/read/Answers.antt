@@ -1,4 +1,4 @@
-use Rattle.std.proofs.Common.{◌≡◌, true, eqb, List, length, ap, ◌∙◌, rules}
+use Rattle.std.proofs.Common.{◌≡◌, true, eqb, length, ap, ◌∙◌, rules}
 use Rattle.commands.specs.Reply.{reply_answer, replied}
 use Rattle.bench.specs.declared.live.Live.{Live}
 use Rattle.bench.specs.Live.{at_rest, shown}
@@ -12,8 +12,8 @@ returns c =
     let r = c.args.register in
     let b = c.args.buffer.now in
     record {
-      answer = c.reply-register.ensures.answer ∙ ap (λ (l : Live). reply_answer b (shown l f r)) c.at-rest.ensures ∙ answers _ b (shown at_rest f r) e;
+      answer = c.reply_register.ensures.answer ∙ ap (λ (l : Live). reply_answer b (shown l f r)) c.at_rest.ensures ∙ answers _ b (shown at_rest f r) e;
       reply =
-          c.reply-register.ensures.after ∙ ap (λ (l : Live). replied b l.status (shown l f r)) c.at-rest.ensures
+          c.reply_register.ensures.after ∙ ap (λ (l : Live). replied b l.status (shown l f r)) c.at_rest.ensures
           ∙ replies _ b (shown at_rest f r) at_rest.status e;
     }
