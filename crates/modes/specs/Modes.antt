@@ -1,5 +1,5 @@
 -- What CE, ticks, acknowledgements and flushes do to the mode, the flags and the counters.
-use Rattle.std.specs.Prelude.{◌≡◌, ℕ, ◌+◌, ◌-◌, ◌*◌, Bool, true, false, cond, not, ◌&&◌, nat_lt}
+use Rattle.std.specs.Prelude.{ℕ, ◌+◌, ◌-◌, ◌*◌, Bool, true, false, cond, not, ◌&&◌, nat_lt}
 use Rattle.registers.specs.Bits.{bit}
 use Rattle.commands.specs.declared.flags.Flags.{Flags}
 use Rattle.modes.specs.declared.core.Mode.{Mode}
