@@ -1,6 +1,5 @@
 // Frames: their fields, packing and reading, and what damage does to them, for every kind of check.
 #![tactic(auto)]
-
 mod bits;
 mod damage;
 mod fields;

@@ -72,7 +72,7 @@ fn fields_at(frame: &[u8], wide: AddressWidth, len: usize) -> Fields
 // Whether the check after a payload of that length is right.
 fn is_right<C: Check>(frame: &[u8], width: usize, len: usize) -> bool
     requires { (width ≤ 5) × ((len ≤ 32) × (8 + 8 * width + 9 + 8 * len + C.Check.width ≤ 8 * length frame.now)) }
-    ensures { result ≡ (meaning (take (8 * width + 9 + 8 * len) (drop 8 (bits frame.now))) == number (take C.Check.width (drop (8 + 8 * width + 9 + 8 * len) (bits frame.now)))) }
+    ensures { result ≡ (C.meaning (take (8 * width + 9 + 8 * len) (drop 8 (bits frame.now))) == number (take C.Check.width (drop (8 + 8 * width + 9 + 8 * len) (bits frame.now)))) }
 {
     let end = 8 + 8 * width + 9 + 8 * len;
     C::of(&frame[1..], end - 8).number() == get_bits(frame, end, C::size())
@@ -84,8 +84,8 @@ pub fn read<C: Check>(
     count: usize,
     wide: AddressWidth,
 ) -> Result<Option<Heard>, Refusal>
-    ensures value { Reads C.Check.width meaning (width_of wide) frame.now count result }
-    ensures exact { Exact C.Check.width meaning (width_of wide) frame.now count result }
+    ensures value { Reads C.Check.width C.meaning (width_of wide) frame.now count result }
+    ensures exact { Exact C.Check.width C.meaning (width_of wide) frame.now count result }
 {
     if !holds(frame, count) {
         return Err(Refusal::FrameBytes);

@@ -21,8 +21,8 @@ loop-i-preserved c =
     let at = c.args.at in
     let i = c.loop-i.i in
     let lt : i < length (drop at bs) = omega (arith, length-drop at bs, length_bits c.args.buf.now) in
-    let bit : c.bit-at.result ≡ get_or (drop at bs) i false = c.bit-at.ensures ∙ sym (get_or-drop at bs i false) in
-    let e = byte_of c.bit-at.result in (
+    let bit : c.bit_at.result ≡ get_or (drop at bs) i false = c.bit_at.ensures ∙ sym (get_or-drop at bs i false) in
+    let e = byte_of c.bit_at.result in (
       ap₂ (λ (x y : ℕ). x * 2 + y) c.loop-i.invariant.0 (e.0 ∙ ap digit bit)
           ∙ sym (ap number (take_more (drop at bs) i false lt) ∙ number_push 0 (take i (drop at bs)) (get_or (drop at bs) i false)),
       rw add-one (omega (arith, pow-suc 2 i, e.1, c.loop-i.invariant.1)),

@@ -15,7 +15,7 @@ loop-i-preserved c =
     let v = c.args.value in
     let i = c.loop-i.i in
     let bit = ap (λ (x : ℕ). eqb x 1) (and_mask (v / 2 ^ (n - 1 - i)) 1) ∙ sym (getD_word n v i (omega arith)) in
-    c.put-bit.ensures
+    c.put_bit.ensures
     ∙ ap₂ (λ (xs : List Bool) (b : Bool). set xs (c.args.at + i) b) c.loop-i.invariant bit
     ∙ paste_more (bits c.args.buf.now) c.args.at (word n v) i false
     (omega (arith, length_bits c.args.buf.now)) (omega (arith, length_word n v))

@@ -13,7 +13,7 @@ loop-i-init c = paste_none (bits c.args.buf.now) c.args.at (bits [])
 pub loop-i-preserved : goal.loop-i-preserved
 loop-i-preserved c =
     octet_more (bits c.args.buf.now) _ _ c.args.at c.loop-i.i _ c.args.src.now (omega arith)
-    (omega (arith, length_bits c.args.buf.now)) c.from.ensures c.loop-i.invariant c.put-bits.ensures
+    (omega (arith, length_bits c.args.buf.now)) c.from.ensures c.loop-i.invariant c.put_bits.ensures
 
 pub returns : goal.returns
 returns c =

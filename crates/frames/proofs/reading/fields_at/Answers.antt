@@ -17,11 +17,11 @@ returns c =
     let lw : length (take (c.bytes-width.result - 0) (zeros 5)) ≡ width = length-take-le _ (zeros 5) (omega arith) ∙ omega (arith, is) in
     let ll : length (take (len - 0) (zeros 32)) ≡ len = length-take-le (len - 0) (zeros 32) (omega arith) ∙ omega arith in
     let ea : c.reverse.new.self ≡ reverse (octets width (drop 8 b)) =
-    c.reverse.ensures.after ∙ ap reverse (c.get-octets.ensures ∙ ap (λ (n : ℕ). octets n (drop 8 b)) lw) in
-    let ep : c.get-octets-2.new.out ≡ octets len (drop (8 + 8 * width + 9) b) =
-    c.get-octets-2.ensures ∙ ap₂ (λ (n v : ℕ). octets n (drop (8 + 8 * v + 9) b)) ll is in
+    c.reverse.ensures.after ∙ ap reverse (c.get_octets.ensures ∙ ap (λ (n : ℕ). octets n (drop 8 b)) lw) in
+    let ep : c.get_octets-2.new.out ≡ octets len (drop (8 + 8 * width + 9) b) =
+    c.get_octets-2.ensures ∙ ap₂ (λ (n v : ℕ). octets n (drop (8 + 8 * v + 9) b)) ll is in
     same
     (take_at c.reverse.new.self _ width (omega (arith, lw)) ∙ ea)
-    (c.pid_of.ensures ∙ c.get-bits.ensures.value ∙ ap (λ (v : ℕ). number (take 2 (drop (8 + 8 * v + 6) b))) is)
-    (c.bit-at.ensures ∙ ap (λ (v : ℕ). get_or b (8 + 8 * v + 8) false) is)
-    (take_at c.get-octets-2.new.out _ len (omega (arith, ap length ep, length_octets len (drop (8 + 8 * width + 9) b))) ∙ ep)
+    (c.pid_of.ensures ∙ c.get_bits.ensures.value ∙ ap (λ (v : ℕ). number (take 2 (drop (8 + 8 * v + 6) b))) is)
+    (c.bit_at.ensures ∙ ap (λ (v : ℕ). get_or b (8 + 8 * v + 8) false) is)
+    (take_at c.get_octets-2.new.out _ len (omega (arith, ap length ep, length_octets len (drop (8 + 8 * width + 9) b))) ∙ ep)
