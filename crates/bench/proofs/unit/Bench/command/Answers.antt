@@ -9,7 +9,7 @@ returns-in-WriteRegister c =
     let f = c.args.self.now.registers in
     let b = c.args.buffer.now in
     let e : Ok (write_register c.in-WriteRegister.register c.in-WriteRegister.data.now) ≡ ordered c.args.bytes.now =
-    sym (ap told (c.in-ok-register.was ∙ ap Ok c.in-WriteRegister.is)) ∙ c.decode.ensures in
+    sym (ap told (c.in_ok-register.was ∙ ap Ok c.in-WriteRegister.is)) ∙ c.decode.ensures in
     record {
       answer = c.write.ensures.answer ∙ ap (command_answer f (length b)) e;
       registers = c.write.ensures.registers ∙ ap (registers_after f (length b)) e;
@@ -21,7 +21,7 @@ returns-in-Nop c =
     let f = c.args.self.now.registers in
     let b = c.args.buffer.now in
     let e : Ok (nop c.in-Nop.data.now) ≡ ordered c.args.bytes.now =
-    sym (ap told (c.in-ok-register.was ∙ ap Ok c.in-Nop.is)) ∙ c.decode.ensures in
+    sym (ap told (c.in_ok-register.was ∙ ap Ok c.in-Nop.is)) ∙ c.decode.ensures in
     record {
       answer = c.nop.ensures.answer ∙ ap (command_answer f (length b)) e;
       registers = kept _ f ∙ ap (registers_after f (length b)) e;

@@ -12,8 +12,8 @@ returns-in-Err c =
     let h = refuses_all p f c.in-Err.refusal (unsound p f s.0 ∙ sym s.1) in
     record { answer = h.0; registers = h.1; law = h.2 }
 
-pub refused-field-requires : goal.refused-field-requires
-refused-field-requires c = from_ok _ _ _ c.in-Ok.ensures
+pub refused_field-requires : goal.refused_field-requires
+refused_field-requires c = from_ok _ _ _ c.in-Ok.ensures
 
 pub returns-in-Some : goal.returns-in-Some
 returns-in-Some c =
@@ -23,8 +23,8 @@ returns-in-Some c =
     let h = refuses_all p f c.in-Some.refusal (in_fields p f s ∙ sym c.in-Some.ensures) in
     record { answer = h.0; registers = h.1; law = h.2 }
 
-pub write-fields-requires : goal.write-fields-requires
-write-fields-requires c = from_ok _ _ _ c.in-Ok.ensures
+pub write_fields-requires : goal.write_fields-requires
+write_fields-requires c = from_ok _ _ _ c.in-Ok.ensures
 
 pub returns-in-None : goal.returns-in-None
 returns-in-None c =
@@ -33,6 +33,6 @@ returns-in-None c =
     let h = loads_all p f c.count-all.ensures.1 (from_ok _ _ _ c.in-Ok.ensures) (sym c.in-None.ensures) in
     record {
       answer = h.0;
-      registers = c.write-fields.ensures ∙ h.1;
-      law = subst (λ (g : Registers). Loaded p f g) (sym c.write-fields.ensures) h.2;
+      registers = c.write_fields.ensures ∙ h.1;
+      law = subst (λ (g : Registers). Loaded p f g) (sym c.write_fields.ensures) h.2;
     }

@@ -11,5 +11,5 @@ returns c =
     let b = c.args.buffer.now in
     record {
       answer = c.reply.ensures.answer ∙ answers _ b [] e;
-      reply = c.reply.ensures.after ∙ ap (λ (l : Live). replied b l.status []) c.at-rest.ensures ∙ replies _ b [] at_rest.status e;
+      reply = c.reply.ensures.after ∙ ap (λ (l : Live). replied b l.status []) c.at_rest.ensures ∙ replies _ b [] at_rest.status e;
     }

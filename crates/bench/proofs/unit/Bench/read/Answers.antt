@@ -12,8 +12,8 @@ returns c =
     let r = c.args.register in
     let b = c.args.buffer.now in
     record {
-      answer = c.reply-register.ensures.answer ∙ ap (λ (l : Live). reply_answer b (shown l f r)) c.at-rest.ensures ∙ answers _ b (shown at_rest f r) e;
+      answer = c.reply_register.ensures.answer ∙ ap (λ (l : Live). reply_answer b (shown l f r)) c.at_rest.ensures ∙ answers _ b (shown at_rest f r) e;
       reply =
-          c.reply-register.ensures.after ∙ ap (λ (l : Live). replied b l.status (shown l f r)) c.at-rest.ensures
+          c.reply_register.ensures.after ∙ ap (λ (l : Live). replied b l.status (shown l f r)) c.at_rest.ensures
           ∙ replies _ b (shown at_rest f r) at_rest.status e;
     }
