@@ -1,13 +1,12 @@
 -- A transaction with nothing heard ends by MAX_RT within its budget of ticks.
-use Rattle.std.proofs.Common.{◌≡◌, ℕ, zero, suc, ◌+◌, ◌-◌, ◌*◌, ◌<◌, ◌≤◌, Bool, true, false, cond, ltb, ◌⊎◌, sym, refl, ap, ◌∙◌, subst, inl, inr, mul-le-mul_right, suc-mul, add-mul, arith}
-use Rattle.std.proofs.lemmas.Bool.{cases_lt, lt-ltb, le-ltb}
-use Rattle.modes.specs.declared.core.Mode.{Mode}
-use Rattle.modes.specs.declared.core.Mode.TheVariants.{Shutdown, Starting, Standby, IdleTx, Tuning, Rx, Waiting}
-use Rattle.modes.specs.declared.core.Role.TheVariants.{Sender}
-use Rattle.modes.specs.declared.core.Retry.{Retry}
-use Rattle.modes.specs.declared.core.Counts.{Counts}
-use Rattle.modes.specs.declared.core.Core.{Core}
-use Rattle.modes.specs.Modes.{in_mode, counting, ticked, tick_in, tuned, retried, given_up, tuning_ticks, wait_ticks}
+use Rattle.std.proofs.Common.{◌≡◌, ℕ, zero, suc, ◌+◌, ◌-◌, ◌*◌, ◌≤◌, Bool, true, false, cond, ltb, refl, ap, ◌∙◌, mul-le-mul_right, suc-mul, add-mul, arith}
+use Rattle.std.proofs.lemmas.Bool.{lt-ltb, le-ltb}
+use Rattle.modes.specs.declared.parts.Mode.{Mode}
+use Rattle.modes.specs.declared.parts.Mode.TheVariants.{Shutdown, Starting, Standby, IdleTx, Tuning, Rx, Waiting}
+use Rattle.modes.specs.declared.parts.Role.TheVariants.{Sender}
+use Rattle.modes.specs.declared.parts.Retry.{Retry}
+use Rattle.modes.specs.declared.parts.Core.{Core}
+use Rattle.modes.specs.Modes.{in_mode, ticked, tick_in, tuned, retried, given_up, tuning_ticks, wait_ticks}
 use Rattle.modes.specs.Budget.{ticks, UnderWay, GivesUpInTime}
 
 -- MAX_RT stands within m ticks

@@ -1,10 +1,10 @@
 -- How long a sender tries.
-use Rattle.std.specs.Prelude.{◌≡◌, ℕ, zero, suc, ◌+◌, ◌*◌, ◌≤◌, Bool, true, false}
-use Rattle.modes.specs.declared.core.Mode.{Mode}
-use Rattle.modes.specs.declared.core.Mode.TheVariants.{Shutdown, Starting, Standby, IdleTx, Tuning, Rx, Waiting}
-use Rattle.modes.specs.declared.core.Role.TheVariants.{Sender}
-use Rattle.modes.specs.declared.core.Retry.{Retry}
-use Rattle.modes.specs.declared.core.Core.{Core}
+use Rattle.std.specs.Prelude.{◌≡◌, ℕ, zero, suc, ◌+◌, ◌*◌, ◌≤◌, Bool, true}
+use Rattle.modes.specs.declared.parts.Mode.{Mode}
+use Rattle.modes.specs.declared.parts.Mode.TheVariants.{Shutdown, Starting, Standby, IdleTx, Tuning, Rx, Waiting}
+use Rattle.modes.specs.declared.parts.Role.TheVariants.{Sender}
+use Rattle.modes.specs.declared.parts.Retry.{Retry}
+use Rattle.modes.specs.declared.parts.Core.{Core}
 use Rattle.modes.specs.Modes.{ticked, tuning_ticks, wait_ticks}
 
 -- some ticks of a sender, with a payload waiting or not

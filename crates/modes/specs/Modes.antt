@@ -1,14 +1,14 @@
 -- What CE, ticks, acknowledgements and flushes do to the mode, the flags and the counters.
-use Rattle.std.specs.Prelude.{◌≡◌, ℕ, ◌+◌, ◌-◌, ◌*◌, Bool, true, false, cond, not, ◌&&◌, nat_lt}
+use Rattle.std.specs.Prelude.{ℕ, ◌+◌, ◌-◌, ◌*◌, Bool, true, false, cond, not, ◌&&◌, nat_lt}
 use Rattle.registers.specs.Bits.{bit}
 use Rattle.commands.specs.declared.flags.Flags.{Flags}
-use Rattle.modes.specs.declared.core.Mode.{Mode}
-use Rattle.modes.specs.declared.core.Mode.TheVariants.{Shutdown, Starting, Standby, IdleTx, Tuning, Rx, Waiting}
-use Rattle.modes.specs.declared.core.Role.{Role}
-use Rattle.modes.specs.declared.core.Role.TheVariants.{Sender, Receiver}
-use Rattle.modes.specs.declared.core.Retry.{Retry}
-use Rattle.modes.specs.declared.core.Counts.{Counts}
-use Rattle.modes.specs.declared.core.Core.{Core}
+use Rattle.modes.specs.declared.parts.Mode.{Mode}
+use Rattle.modes.specs.declared.parts.Mode.TheVariants.{Shutdown, Starting, Standby, IdleTx, Tuning, Rx, Waiting}
+use Rattle.modes.specs.declared.parts.Role.{Role}
+use Rattle.modes.specs.declared.parts.Role.TheVariants.{Sender, Receiver}
+use Rattle.modes.specs.declared.parts.Retry.{Retry}
+use Rattle.modes.specs.declared.parts.Counts.{Counts}
+use Rattle.modes.specs.declared.parts.Core.{Core}
 
 -- ---- parts of the state replaced
 

@@ -1,7 +1,7 @@
 ghost use Rattle.std.specs.Prelude.{◌≡◌};
 ghost use Rattle.modes.specs.Modes.{resting, wait_ticks, begun, given_up, ticked, sends, leveled, acknowledged, flushed, reconfigured, is_waiting, is_rx, busy};
 
-use crate::core::{Core, Mode, Retry, Role};
+use crate::parts::{Core, Mode, Retry, Role};
 use registers::stands;
 
 // From power up to Standby.

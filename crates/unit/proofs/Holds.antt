@@ -15,7 +15,7 @@ use Rattle.commands.specs.declared.refusal.Refusal.{Refusal}
 use Rattle.commands.specs.Decode.{Order, read_register, write_register, write_payload, read_payload, flush_tx, flush_rx, nop}
 use Rattle.commands.specs.Refusals.{unless, kept_or}
 use Rattle.bench.specs.Checking.{is_receiver}
-use Rattle.modes.specs.declared.core.Core.{Core}
+use Rattle.modes.specs.declared.parts.Core.{Core}
 use Rattle.modes.specs.Modes.{is_waiting, is_rx}
 use Rattle.unit.specs.declared.entry.Data.{Data}
 use Rattle.unit.specs.declared.entry.Outgoing.{Outgoing}

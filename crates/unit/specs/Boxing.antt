@@ -8,7 +8,7 @@ use Rattle.registers.specs.File.{byte_of}
 use Rattle.commands.specs.Status.{no_flags}
 use Rattle.bench.specs.Checking.{fault_of}
 use Rattle.unit.specs.declared.memory.Memories.{Memories}
-use Rattle.modes.specs.declared.core.Mode.TheVariants.{Shutdown}
+use Rattle.modes.specs.declared.parts.Mode.TheVariants.{Shutdown}
 use Rattle.unit.specs.declared.state.State.{State}
 
 abbrev pub no_memories : Memories

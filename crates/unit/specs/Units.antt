@@ -7,10 +7,10 @@ use Rattle.registers.specs.File.{value_of, byte_of}
 use Rattle.commands.specs.declared.refusal.Refusal.{Refusal}
 use Rattle.commands.specs.declared.refusal.Refusal.TheVariants.{Fault}
 use Rattle.bench.specs.Checking.{is_receiver, in_use}
-use Rattle.modes.specs.declared.core.Core.{Core}
-use Rattle.modes.specs.declared.core.Role.{Role}
-use Rattle.modes.specs.declared.core.Role.TheVariants.{Sender, Receiver}
-use Rattle.modes.specs.declared.core.Retry.{Retry}
+use Rattle.modes.specs.declared.parts.Core.{Core}
+use Rattle.modes.specs.declared.parts.Role.{Role}
+use Rattle.modes.specs.declared.parts.Role.TheVariants.{Sender, Receiver}
+use Rattle.modes.specs.declared.parts.Retry.{Retry}
 use Rattle.queue.specs.declared.queue.Queue.{Queue}
 use Rattle.queue.specs.Entries.{entries}
 use Rattle.unit.specs.declared.entry.Outgoing.{Outgoing}
