@@ -155,9 +155,9 @@ impl<C: Check> Boxed<C> {
     // A frame reaches the unit: the first `count` bits of its bytes. The answer is the bit count of the frame that is sent
     // back, 0 for none; it stands in the buffer.
     pub fn hear(&mut self, frame: &[u8], count: usize, buffer: &mut [u8]) -> Result<usize, Refusal>
-        ensures answer { result ≡ hear_answer C.Check.width meaning self.old.state frame.now count (length buffer.old) }
-        ensures state { self.new.state ≡ hear_after C.Check.width meaning self.old.state frame.now count (length buffer.old) }
-        ensures buffer { buffer.new ≡ hear_buffer C.Check.width meaning self.old.state frame.now count buffer.old }
+        ensures answer { result ≡ hear_answer C.Check.width C.meaning self.old.state frame.now count (length buffer.old) }
+        ensures state { self.new.state ≡ hear_after C.Check.width C.meaning self.old.state frame.now count (length buffer.old) }
+        ensures buffer { buffer.new ≡ hear_buffer C.Check.width C.meaning self.old.state frame.now count buffer.old }
     {
         if let Some(register) = self.state.fault {
             return Err(Refusal::Fault(register));

@@ -47,8 +47,8 @@ impl State {
 // Writes a frame into the buffer, if there is one to write, and answers its bit count.
 pub(crate) fn put_frame<C: Check>(fields: Option<Fields>, buffer: &mut [u8]) -> usize
     requires { 42 ≤ length buffer.old }
-    ensures answer { result ≡ length (bits_of C.Check.width meaning (option_map packet_of fields)) }
-    ensures buffer { buffer.new ≡ buffer_after (bits_of C.Check.width meaning (option_map packet_of fields)) buffer.old }
+    ensures answer { result ≡ length (bits_of C.Check.width C.meaning (option_map packet_of fields)) }
+    ensures buffer { buffer.new ≡ buffer_after (bits_of C.Check.width C.meaning (option_map packet_of fields)) buffer.old }
 {
     match fields {
         Some(fields) => match frames::pack::<C>(&fields, buffer) {
@@ -62,9 +62,9 @@ pub(crate) fn put_frame<C: Check>(fields: Option<Fields>, buffer: &mut [u8]) -> 
 impl<C: Check> Boxed<C> {
     // One tick of 10 µs. The answer is the bit count of the frame that is sent, 0 for none; it stands in the buffer.
     pub fn tick(&mut self, buffer: &mut [u8]) -> Result<usize, Refusal>
-        ensures answer { result ≡ tick_answer C.Check.width meaning self.old.state (length buffer.old) }
+        ensures answer { result ≡ tick_answer C.Check.width C.meaning self.old.state (length buffer.old) }
         ensures state { self.new.state ≡ tick_after self.old.state (length buffer.old) }
-        ensures buffer { buffer.new ≡ tick_buffer C.Check.width meaning self.old.state buffer.old }
+        ensures buffer { buffer.new ≡ tick_buffer C.Check.width C.meaning self.old.state buffer.old }
     {
         if let Some(register) = self.state.fault {
             return Err(Refusal::Fault(register));

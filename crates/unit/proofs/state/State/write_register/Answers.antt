@@ -21,14 +21,14 @@ returns-in-None c =
     let r = c.args.register in
     let b = c.args.buffer.now in
     let e : eqb (length d) (size_of r) ≡ true = eq-eqb _ _ (omega (arith, c.size.ensures.value)) in
-    let some : length b ≡ 0 → ⊥ = false-eqb (length b) 0 c.if-is-empty.ensures in
+    let some : length b ≡ 0 → ⊥ = false-eqb (length b) 0 c.if-is_empty.ensures in
     let f : ltb (length b) 1 ≡ false = le-ltb (length b) 1 (omega (arith, some)) in
     let n = write_unrefused s (length b) r d e f (sym c.in-None.ensures) in
     let h = finished _ b (status s) n f in
     record {
       answer = c.reply.ensures.answer ∙ h.0;
       state =
-          c.store.ensures ∙ ap (λ (v : ℕ). written s r v) c.first-byte.ensures
+          c.store.ensures ∙ ap (λ (v : ℕ). written s r v) c.first_byte.ensures
           ∙ sym (ap (λ (o : Option Refusal). kept_or o s (written s r (get_or d 0 0))) n);
       buffer = c.reply.ensures.after ∙ ap (λ (l : Live). replied b l.status []) c.live-status.ensures ∙ h.1;
     }
