@@ -6,9 +6,9 @@ use Rattle.answers.proofs.profiles.push_register.Goals as goal
 
 pub returns : goal.returns
 returns c =
-    and_then c.in-ok-push-text.ensures
-    (and_then (said c.in-ok-push-digits.ensures.shown (ap (λ a. digits_shown (a ∷ [])) c.address.ensures.value))
-    (and_then c.in-ok-push-text-2.ensures
-    (and_then (said c.in-ok-push-text-3.ensures c.name-name.ensures)
-    (and_then (said c.in-ok-push-blanks.ensures (ap (λ n. drop (length n) blanks) c.name-name.ensures))
-    (and_then c.in-ok-push-bytes.ensures.shown c.in-ok-push-text-4.ensures)))))
+    and_then c.in_ok-push_text.ensures
+    (and_then (said c.in_ok-push_digits.ensures.shown (ap (λ a. digits_shown (a ∷ [])) c.address.ensures.value))
+    (and_then c.in_ok-push_text-2.ensures
+    (and_then (said c.in_ok-push_text-3.ensures c.name-name.ensures)
+    (and_then (said c.in_ok-push_blanks.ensures (ap (λ n. drop (length n) blanks) c.name-name.ensures))
+    (and_then c.in_ok-push_bytes.ensures.shown c.in_ok-push_text-4.ensures)))))

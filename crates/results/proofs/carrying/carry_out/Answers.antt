@@ -9,7 +9,7 @@ returns c =
     let us = c.args.units.now in
     let q = asked c.args.line.now in
     record {
-      answer = c.done-with.ensures.answer;
-      units = c.done-with.ensures.units;
-      kept = subst (λ x. Kept (carried us q) us x) (sym c.done-with.ensures.units) (carried_kept us q);
+      answer = c.done_with.ensures.answer;
+      units = c.done_with.ensures.units;
+      kept = subst (λ x. Kept (carried us q) us x) (sym c.done_with.ensures.units) (carried_kept us q);
     }

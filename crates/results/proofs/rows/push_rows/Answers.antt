@@ -6,12 +6,12 @@ use Rattle.results.proofs.rows.push_rows.Goals as goal
 
 pub returns : goal.returns
 returns c =
-    let turned = c.in-ok-high-first.ensures ∙ ap reverse c.bytes.ensures in
-    let first = ap preamble_row (c.bit-at.ensures ∙ ap (λ l. get_or (bits l) 0 false) (c.deref.ensures.value ∙ turned)) in
-    and_then (said c.in-ok-push-text.ensures (c.preamble.ensures ∙ first))
-    (and_then (said c.in-ok-push-address.ensures (ap address_row (c.deref-2.ensures.value ∙ turned)))
-    (and_then (said c.in-ok-push-numbered.ensures (ap (λ l. numbered_row (codes "     length    ") (length l) 6) c.bytes-payload.ensures.value))
-    (and_then (said c.in-ok-push-numbered-2.ensures (ap (λ n. numbered_row (codes "     PID       ") n 2) c.number.ensures.value))
-    (and_then (said c.in-ok-push-text-2.ensures c.no_ack.ensures)
-    (and_then (said c.in-ok-push-payload.ensures (ap payload_row c.bytes-payload.ensures.value))
-    (and_then c.in-ok-push-check.ensures c.in-ok-push-text-3.ensures))))))
+    let turned = c.in_ok-high_first.ensures ∙ ap reverse c.bytes.ensures in
+    let first = ap preamble_row (c.bit_at.ensures ∙ ap (λ l. get_or (bits l) 0 false) (c.deref.ensures.value ∙ turned)) in
+    and_then (said c.in_ok-push_text.ensures (c.preamble.ensures ∙ first))
+    (and_then (said c.in_ok-push_address.ensures (ap address_row (c.deref-2.ensures.value ∙ turned)))
+    (and_then (said c.in_ok-push_numbered.ensures (ap (λ l. numbered_row (codes "     length    ") (length l) 6) c.bytes-payload.ensures.value))
+    (and_then (said c.in_ok-push_numbered-2.ensures (ap (λ n. numbered_row (codes "     PID       ") n 2) c.number.ensures.value))
+    (and_then (said c.in_ok-push_text-2.ensures c.no_ack.ensures)
+    (and_then (said c.in_ok-push_payload.ensures (ap payload_row c.bytes-payload.ensures.value))
+    (and_then c.in_ok-push_check.ensures c.in_ok-push_text-3.ensures))))))

@@ -3,11 +3,11 @@ use Rattle.words.proofs.Chain.{said}
 use Rattle.results.specs.Texts.{why_text}
 use Rattle.results.proofs.texts.push_why.Goals as goal
 
-pub returns-in-ok-push-usage : goal.returns-in-ok-push-usage
-returns-in-ok-push-usage c = said c.in-ok-push-usage.ensures (sym (ap why_text c.in-TooFew.is))
+pub returns-in_ok-push_usage : goal.returns-in_ok-push_usage
+returns-in_ok-push_usage c = said c.in_ok-push_usage.ensures (sym (ap why_text c.in-TooFew.is))
 
-pub returns-in-ok-push-usage-2 : goal.returns-in-ok-push-usage-2
-returns-in-ok-push-usage-2 c = said c.in-ok-push-usage-2.ensures (sym (ap why_text c.in-TooMany.is))
+pub returns-in_ok-push_usage-2 : goal.returns-in_ok-push_usage-2
+returns-in_ok-push_usage-2 c = said c.in_ok-push_usage-2.ensures (sym (ap why_text c.in-TooMany.is))
 
-pub returns-in-ok-push-text : goal.returns-in-ok-push-text
-returns-in-ok-push-text c = said c.in-ok-push-text.ensures (sym (ap why_text c.in-PayloadLength.is))
+pub returns-in_ok-push_text : goal.returns-in_ok-push_text
+returns-in_ok-push_text c = said c.in_ok-push_text.ensures (sym (ap why_text c.in-PayloadLength.is))

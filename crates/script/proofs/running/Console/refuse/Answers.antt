@@ -3,4 +3,4 @@ use Rattle.words.proofs.Chain.{and_then}
 use Rattle.script.proofs.running.Console.refuse.Goals as goal
 
 pub returns : goal.returns
-returns c = record { state = search rules; text = and_then c.in-ok-push-cannot.ensures c.in-ok-push-text.ensures }
+returns c = record { state = search rules; text = and_then c.in_ok-push_cannot.ensures c.in_ok-push_text.ensures }
