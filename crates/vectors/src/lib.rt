@@ -1,4 +1,6 @@
 // Checks and frames against values that an independent program reckoned.
+#![tactic(auto)]
+
 mod table;
 
 pub use table::{CHECKED, Checked, FRAMED, Framed};
