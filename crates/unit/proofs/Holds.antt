@@ -1,5 +1,5 @@
 -- The laws of a boxed unit.
-use Rattle.std.proofs.Common.{◌≡◌, ℕ, Bool, true, false, cond, not, ◌&&◌, eqb, ◌⊎◌, List, [], ◌∷◌, ◌++◌, length, get_or, take, drop, set, Some, None, Ok, Err, Option, Result, sym, refl, ap, ◌∙◌, subst, inl, inr, append-nil, arith, rules}
+use Rattle.std.proofs.Common.{◌≡◌, ℕ, Bool, true, false, cond, not, ◌&&◌, eqb, ◌⊎◌, List, [], ◌∷◌, ◌++◌, length, take, drop, Some, None, Ok, Err, Option, Result, sym, refl, ap, ◌∙◌, inl, inr, append-nil, arith, rules}
 use Rattle.std.proofs.lemmas.List.{get_or-set_other}
 use Rattle.checks.specs.Bits.{bits}
 use Rattle.frames.specs.Packet.{Packet, covered, reading}
@@ -7,7 +7,6 @@ use Rattle.queue.specs.declared.queue.Queue.{Queue}
 use Rattle.queue.specs.declared.queue.Queue.TheVariants.{Empty, One, Two, Three}
 use Rattle.queue.specs.Entries.{entries, pushed, popped}
 use Rattle.registers.specs.declared.pipe.Pipe.{Pipe}
-use Rattle.registers.specs.declared.register.Register.{Register}
 use Rattle.registers.specs.Address.{address_of}
 use Rattle.registers.specs.File.{byte_of}
 use Rattle.registers.specs.Pipes.{index_of, pipe_at, width_register}
@@ -24,9 +23,9 @@ use Rattle.unit.specs.declared.memory.Memories.{Memories}
 use Rattle.unit.specs.declared.state.State.{State}
 use Rattle.unit.specs.Entries.{entry_of}
 use Rattle.unit.specs.Units.{fault_refusal}
-use Rattle.unit.specs.Ticking.{tick_refusal, tick_state}
-use Rattle.unit.specs.Commanding.{refusal, command_after, done_by, written}
-use Rattle.unit.specs.Hearing.{recalled, remembered, pipe_of, Outcome, dropped, answered, acknowledgement, is_acknowledgement, same_memory, taken, fresh, on_its_pipe, heard_by_receiver, heard_by_sender, delivered, hears, heard_packet, heard_bits, hear_refusal, hear_after, address_width}
+use Rattle.unit.specs.Ticking.{tick_refusal}
+use Rattle.unit.specs.Commanding.{refusal, done_by}
+use Rattle.unit.specs.Hearing.{recalled, remembered, pipe_of, Outcome, dropped, answered, acknowledgement, is_acknowledgement, same_memory, taken, fresh, on_its_pipe, delivered, hears, heard_packet, hear_refusal, address_width}
 use Rattle.unit.specs.Laws.{RefusedChangesNothing, OwnMemoryOnly, StillWait, is_flush_tx, Acknowledged, LeavesOnlySo}
 
 -- ---- refusals

@@ -1,5 +1,5 @@
 -- A command that nothing refuses.
-use Rattle.std.proofs.Common.{◌≡◌, ℕ, ◌+◌, Bool, true, false, cond, not, eqb, ltb, List, [], ◌∷◌, ◌++◌, length, drop, Some, None, Option, sym, refl, ap, ◌∙◌}
+use Rattle.std.proofs.Common.{◌≡◌, ℕ, Bool, true, false, cond, not, eqb, ltb, List, [], ◌∷◌, ◌++◌, length, drop, Some, None, Option, sym, ap, ◌∙◌}
 use Rattle.registers.specs.declared.register.Register.{Register}
 use Rattle.registers.specs.Table.{size_of}
 use Rattle.commands.specs.declared.refusal.Refusal.{Refusal}

@@ -1,5 +1,5 @@
 -- A unit as it leaves the bench.
-use Rattle.std.specs.Prelude.{◌≡◌, ℕ, Bool, true, false, List, [], replicate, Some, None, Option}
+use Rattle.std.specs.Prelude.{ℕ, false, replicate, None}
 use Rattle.queue.specs.declared.queue.Queue.TheVariants.{Empty}
 use Rattle.frames.specs.declared.fields.Pid.TheVariants.{Zero}
 use Rattle.registers.specs.declared.register.Register.TheVariants.{Config}

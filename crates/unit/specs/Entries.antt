@@ -2,7 +2,6 @@
 use Rattle.std.specs.Prelude.{ℕ, suc, ◌≤◌, min, cond, ◌&&◌, List, [], ◌∷◌, length, Some, None, Option, nat_le}
 use Rattle.std.proofs.Common.{zero-le, suc-le-suc}
 use Rattle.std.proofs.Math.Nat.{le-min}
-use Rattle.frames.specs.declared.fields.Payload.{Payload}
 use Rattle.frames.specs.Calls.{payload_bytes, payload_of}
 use Rattle.unit.specs.declared.entry.Data.{Data}
 

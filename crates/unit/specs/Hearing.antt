@@ -1,5 +1,5 @@
 -- What a boxed unit makes of a frame that reaches it.
-use Rattle.std.specs.Prelude.{◌≡◌, ℕ, ◌*◌, Bool, true, false, cond, not, ◌&&◌, List, [], ◌∷◌, length, take, Some, None, Ok, Err, Option, Result, ◌==◌, nat_lt, slice_index_or, slice_set}
+use Rattle.std.specs.Prelude.{ℕ, ◌*◌, Bool, true, false, cond, not, ◌&&◌, List, [], ◌∷◌, length, take, Some, None, Option, Result, ◌==◌, nat_lt, slice_index_or, slice_set}
 use Rattle.std.specs.Str.{bytes_eq}
 use Rattle.checks.specs.Bits.{bits}
 use Rattle.frames.specs.Packet.{Packet, covered, buffer_after, reading}
@@ -21,7 +21,7 @@ use Rattle.unit.specs.declared.memory.Memory.{Memory}
 use Rattle.unit.specs.declared.memory.Memories.{Memories}
 use Rattle.unit.specs.declared.state.State.{State}
 use Rattle.unit.specs.Entries.{entry_of}
-use Rattle.unit.specs.Units.{with_core, fault_refusal, or_else}
+use Rattle.unit.specs.Units.{fault_refusal, or_else}
 use Rattle.unit.specs.Ticking.{bits_of}
 
 -- ---- the memories of the pipes

@@ -1,5 +1,5 @@
 -- Laws of a boxed unit, over the definitions that the contracts of its calls use.
-use Rattle.std.specs.Prelude.{◌≡◌, ℕ, Bool, true, false, ◌⊎◌, List, [], ◌∷◌, ◌++◌, length, drop, Some, None, Ok, Err, Option, Result, ◌≢◌}
+use Rattle.std.specs.Prelude.{◌≡◌, ℕ, Bool, true, false, ◌⊎◌, List, ◌++◌, length, drop, Some, Ok, Err, Result, ◌≢◌}
 use Rattle.frames.specs.Packet.{Packet}
 use Rattle.queue.specs.Entries.{entries}
 use Rattle.registers.specs.declared.pipe.Pipe.{Pipe}

@@ -1,5 +1,5 @@
 -- A tick of a boxed unit, and the level of its CE pin.
-use Rattle.std.specs.Prelude.{ℕ, Bool, true, false, cond, List, [], ◌∷◌, length, Some, None, Ok, Err, Option, Result, nat_lt}
+use Rattle.std.specs.Prelude.{ℕ, Bool, false, cond, List, [], ◌∷◌, length, Some, None, Option, Result, nat_lt}
 use Rattle.std.specs.Option.{option_map}
 use Rattle.frames.specs.Packet.{Packet, frame_bits, buffer_after}
 use Rattle.frames.specs.Calls.{pid_number}

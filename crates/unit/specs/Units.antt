@@ -1,7 +1,6 @@
 -- What the registers of a boxed unit settle, and parts of its state replaced.
-use Rattle.std.specs.Prelude.{ℕ, ◌/◌, ◌%◌, Bool, true, false, cond, not, List, [], ◌∷◌, length, Some, None, Option, ◌==◌}
-use Rattle.registers.specs.declared.register.Register.{Register}
-use Rattle.registers.specs.declared.register.Register.TheVariants.{SetupRetr, SetupAw, TxAddr}
+use Rattle.std.specs.Prelude.{ℕ, ◌/◌, ◌%◌, Bool, cond, not, List, length, Some, None, Option, ◌==◌}
+use Rattle.registers.specs.declared.register.Register.TheVariants.{SetupRetr, TxAddr}
 use Rattle.registers.specs.declared.held.Registers.{Registers}
 use Rattle.registers.specs.File.{value_of, byte_of}
 use Rattle.commands.specs.declared.refusal.Refusal.{Refusal}

@@ -1,4 +1,4 @@
-use Rattle.std.proofs.Common.{◌≡◌, ℕ, Bool, List, [], length, None, Option, sym, refl, ap}
+use Rattle.std.proofs.Common.{◌≡◌, ℕ, Bool, List, length, None, Option, sym, ap}
 use Rattle.std.specs.Option.{option_map}
 use Rattle.frames.specs.declared.fields.Fields.{Fields}
 use Rattle.frames.specs.Calls.{packet_of}
