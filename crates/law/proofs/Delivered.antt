@@ -3,10 +3,10 @@ use Rattle.std.proofs.Common.{◌≡◌, ℕ, zero, suc, ◌+◌, ◌-◌, ◌%�
 use borrow.Author.Tests.{eqb-false}
 use Rattle.std.proofs.lemmas.Bool.{and_parts}
 use Rattle.queue.specs.Entries.{entries, popped}
-use Rattle.modes.specs.declared.core.Core.{Core}
-use Rattle.modes.specs.declared.core.Mode.{Mode}
-use Rattle.modes.specs.declared.core.Mode.TheVariants.{Shutdown, Starting, Standby, IdleTx, Tuning, Rx, Waiting}
-use Rattle.modes.specs.declared.core.Role.TheVariants.{Sender}
+use Rattle.modes.specs.declared.parts.Core.{Core}
+use Rattle.modes.specs.declared.parts.Mode.{Mode}
+use Rattle.modes.specs.declared.parts.Mode.TheVariants.{Shutdown, Starting, Standby, IdleTx, Tuning, Rx, Waiting}
+use Rattle.modes.specs.declared.parts.Role.TheVariants.{Sender}
 use Rattle.modes.specs.Modes.{is_waiting, resting, acknowledged}
 use Rattle.unit.specs.declared.state.State.{State}
 use Rattle.unit.specs.Units.{retry_of}

@@ -8,8 +8,8 @@ use Rattle.frames.specs.declared.fields.Pid.TheVariants.{Zero}
 use Rattle.frames.specs.Calls.{next_pid}
 use Rattle.queue.specs.Entries.{entries}
 use Rattle.registers.specs.declared.pipe.Pipe.{Pipe}
-use Rattle.modes.specs.declared.core.Mode.{Mode}
-use Rattle.modes.specs.declared.core.Mode.TheVariants.{Shutdown, Starting, Standby, IdleTx, Tuning, Rx, Waiting}
+use Rattle.modes.specs.declared.parts.Mode.{Mode}
+use Rattle.modes.specs.declared.parts.Mode.TheVariants.{Shutdown, Starting, Standby, IdleTx, Tuning, Rx, Waiting}
 use Rattle.modes.specs.Modes.{is_waiting}
 use Rattle.unit.specs.declared.entry.Outgoing.{Outgoing}
 use Rattle.unit.specs.declared.entry.Received.{Received}

@@ -13,11 +13,11 @@ use Rattle.commands.specs.declared.refusal.Refusal.TheVariants.{Fault, NotForUni
 use Rattle.commands.specs.Decode.{Order, read_register, write_register, write_payload, read_payload, flush_tx, flush_rx, nop, known, order_of, ordered, fits}
 use Rattle.commands.specs.Refusals.{first_of, unless, kept_or}
 use Rattle.bench.specs.Checking.{is_receiver}
-use Rattle.modes.specs.declared.core.Core.{Core}
-use Rattle.modes.specs.declared.core.Mode.{Mode}
-use Rattle.modes.specs.declared.core.Mode.TheVariants.{Shutdown, Starting, Standby, IdleTx, Tuning, Rx, Waiting}
-use Rattle.modes.specs.declared.core.Role.{Role}
-use Rattle.modes.specs.declared.core.Role.TheVariants.{Sender, Receiver}
+use Rattle.modes.specs.declared.parts.Core.{Core}
+use Rattle.modes.specs.declared.parts.Mode.{Mode}
+use Rattle.modes.specs.declared.parts.Mode.TheVariants.{Shutdown, Starting, Standby, IdleTx, Tuning, Rx, Waiting}
+use Rattle.modes.specs.declared.parts.Role.{Role}
+use Rattle.modes.specs.declared.parts.Role.TheVariants.{Sender, Receiver}
 use Rattle.modes.specs.Modes.{is_waiting, busy, resting, flushed as flushed_core, powered, reconfigured, raised, lowered, leveled as leveled_core}
 use Rattle.unit.specs.declared.state.State.{State}
 use Rattle.unit.specs.Entries.{data_of}

@@ -7,8 +7,8 @@ use Rattle.queue.specs.Entries.{entries, pushed, popped}
 use Rattle.frames.specs.declared.fields.Pid.{Pid}
 use Rattle.frames.specs.declared.fields.Pid.TheVariants.{Zero, One as PidOne, Two as PidTwo, Three as PidThree}
 use Rattle.frames.specs.Calls.{next_pid, pid_number}
-use Rattle.modes.specs.declared.core.Mode.{Mode}
-use Rattle.modes.specs.declared.core.Mode.TheVariants.{Shutdown, Starting, Standby, IdleTx, Tuning, Rx, Waiting}
+use Rattle.modes.specs.declared.parts.Mode.{Mode}
+use Rattle.modes.specs.declared.parts.Mode.TheVariants.{Shutdown, Starting, Standby, IdleTx, Tuning, Rx, Waiting}
 use Rattle.modes.specs.Modes.{is_waiting}
 use Rattle.unit.specs.declared.entry.Outgoing.{Outgoing}
 use Rattle.unit.specs.Entries.{data_of}

@@ -15,12 +15,12 @@ use Rattle.commands.specs.declared.refusal.Refusal.{Refusal as UnitRefusal}
 use Rattle.commands.specs.declared.refusal.Refusal.TheVariants.{Fault, FrameBytes}
 use Rattle.commands.specs.Refusals.{first_of, unless, kept_or}
 use Rattle.bench.specs.Checking.{is_receiver}
-use Rattle.modes.specs.declared.core.Core.{Core}
-use Rattle.modes.specs.declared.core.Retry.{Retry}
-use Rattle.modes.specs.declared.core.Mode.{Mode}
-use Rattle.modes.specs.declared.core.Mode.TheVariants.{Shutdown, Starting, Standby, IdleTx, Tuning, Rx, Waiting}
-use Rattle.modes.specs.declared.core.Role.{Role}
-use Rattle.modes.specs.declared.core.Role.TheVariants.{Sender, Receiver}
+use Rattle.modes.specs.declared.parts.Core.{Core}
+use Rattle.modes.specs.declared.parts.Retry.{Retry}
+use Rattle.modes.specs.declared.parts.Mode.{Mode}
+use Rattle.modes.specs.declared.parts.Mode.TheVariants.{Shutdown, Starting, Standby, IdleTx, Tuning, Rx, Waiting}
+use Rattle.modes.specs.declared.parts.Role.{Role}
+use Rattle.modes.specs.declared.parts.Role.TheVariants.{Sender, Receiver}
 use Rattle.modes.specs.Modes.{is_waiting, resting, at_rest, in_mode, begun as begun_core, tuned, retried, given_up, tick_in, sends_in, wait_ticks}
 use Rattle.unit.specs.declared.entry.Outgoing.{Outgoing}
 use Rattle.unit.specs.declared.state.State.{State}
