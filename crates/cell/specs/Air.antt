@@ -1,5 +1,5 @@
 -- The air between the units, and what becomes of the frame on it.
-use Rattle.std.specs.Prelude.{ℕ, zero, suc, ◌+◌, ◌-◌, ◌%◌, ◌^◌, Bool, true, false, cond, not, ◌&&◌, List, [], ◌∷◌, length, take, replicate, Some, None, Option, ◌==◌, nat_lt}
+use Rattle.std.specs.Prelude.{ℕ, suc, ◌-◌, ◌%◌, ◌^◌, Bool, true, false, cond, not, ◌&&◌, List, [], ◌∷◌, length, take, replicate, Some, None, Option, ◌==◌, nat_lt}
 use Rattle.checks.specs.Bits.{word, bits}
 use Rattle.frames.specs.Packet.{buffer_after}
 use Rattle.frames.specs.Damage.{changed}

@@ -1,19 +1,17 @@
 -- The calls of a cell, for a check of w bits that means f.
-use Rattle.std.specs.Prelude.{ℕ, zero, suc, Bool, true, false, cond, not, List, [], ◌∷◌, length, replicate, Some, None, Ok, Err, Option, Result, ◌==◌, slice_index_or, slice_set}
+use Rattle.std.specs.Prelude.{ℕ, suc, Bool, true, false, cond, List, [], ◌∷◌, Some, None, Ok, Err, Option, Result, ◌==◌, slice_index_or, slice_set}
 use Rattle.std.specs.Option.{option_map}
-use Rattle.commands.specs.declared.refusal.Refusal.{Refusal as UnitRefusal}
 use Rattle.commands.specs.Decode.{ordered}
 use Rattle.commands.specs.Refusals.{kept_or}
 use Rattle.unit.specs.declared.state.State.{State}
 use Rattle.unit.specs.Commanding.{command_answer, command_after, command_buffer}
 use Rattle.unit.specs.Ticking.{bits_of, sent, tick_refusal, tick_after, tick_answer, ce_answer, ce_after}
-use Rattle.unit.specs.Hearing.{Outcome, heard_bits, hear_refusal}
+use Rattle.unit.specs.Hearing.{heard_bits, hear_refusal}
 use Rattle.cell.specs.declared.air.Frame.{Frame}
 use Rattle.cell.specs.declared.air.Air.{Air}
 use Rattle.cell.specs.declared.air.Air.TheVariants.{Empty, Holds}
 use Rattle.cell.specs.declared.air.Fate.{Fate}
 use Rattle.cell.specs.declared.air.Fate.TheVariants.{Lost, Heard, HeardTwice, Changed}
-use Rattle.cell.specs.declared.parts.Places.{Places}
 use Rattle.cell.specs.declared.parts.Inside.{Inside}
 use Rattle.cell.specs.declared.refusal.Refusal.{Refusal}
 use Rattle.cell.specs.declared.refusal.Cause.TheVariants.{NoSuchUnit, AirHoldsFrame, AirEmpty, FateNotAllowed}

@@ -1,9 +1,7 @@
 -- Making a cell: which units fit together.
-use Rattle.std.specs.Prelude.{◌≡◌, ℕ, zero, suc, ◌+◌, ◌-◌, ◌<◌, ◌≤◌, Bool, true, false, cond, not, ◌&&◌, ◌||◌, List, [], ◌∷◌, ◌++◌, map, length, drop, replicate, is_some, Some, None, Option, ◌==◌, nat_lt}
+use Rattle.std.specs.Prelude.{◌≡◌, ℕ, suc, Bool, true, false, cond, not, ◌&&◌, ◌||◌, List, [], ◌∷◌, ◌++◌, map, length, drop, replicate, is_some, Some, None, Option, ◌==◌, nat_lt}
 use Rattle.queue.specs.Entries.{entries}
-use Rattle.frames.specs.declared.fields.Pid.{Pid}
 use Rattle.frames.specs.Calls.{pid_number}
-use Rattle.registers.specs.declared.register.Register.{Register}
 use Rattle.registers.specs.declared.register.Register.TheVariants.{Config, SetupAw, RfCh, RfSetup}
 use Rattle.registers.specs.declared.pipe.Pipe.{Pipe}
 use Rattle.registers.specs.declared.held.Registers.{Registers}
@@ -12,10 +10,9 @@ use Rattle.registers.specs.File.{byte_of}
 use Rattle.registers.specs.Pipes.{index_of}
 use Rattle.registers.specs.Readings.{width_of}
 use Rattle.bench.specs.Checking.{is_receiver, fault_of}
-use Rattle.modes.specs.declared.core.Mode.{Mode}
-use Rattle.modes.specs.declared.core.Mode.TheVariants.{Shutdown, Starting, Standby, IdleTx, Tuning, Rx, Waiting}
+use Rattle.modes.specs.declared.parts.Mode.{Mode}
+use Rattle.modes.specs.declared.parts.Mode.TheVariants.{Shutdown, Starting, Standby, IdleTx, Tuning, Rx, Waiting}
 use Rattle.commands.specs.declared.flags.Flags.{Flags}
-use Rattle.unit.specs.declared.memory.Memory.{Memory}
 use Rattle.unit.specs.declared.state.State.{State}
 use Rattle.unit.specs.Units.{tx_address}
 use Rattle.unit.specs.Commanding.{alike}

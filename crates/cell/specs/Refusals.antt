@@ -1,5 +1,5 @@
 -- The refusals of a cell.
-use Rattle.std.specs.Prelude.{ℕ, cond, Some, None, Ok, Err, Option, Result, nat_lt}
+use Rattle.std.specs.Prelude.{ℕ, cond, None, Ok, Err, Option, Result, nat_lt}
 use Rattle.registers.specs.declared.register.Register.{Register}
 use Rattle.commands.specs.declared.refusal.Refusal.{Refusal as UnitRefusal}
 use Rattle.commands.specs.Refusals.{numbered}

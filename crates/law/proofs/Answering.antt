@@ -1,25 +1,18 @@
 -- The receiver answers a frame: as a repeat, or since it takes the payload.
-use Rattle.std.proofs.Common.{◌≡◌, ℕ, zero, suc, ◌+◌, ◌-◌, ◌*◌, ◌%◌, ◌<◌, ◌≤◌, Bool, true, false, cond, not, ◌&&◌, ◌||◌, eqb, ltb, leb, ◌⊎◌, List, [], ◌∷◌, ◌++◌, length, get_or, drop, set, Some, None, Option, sym, refl, ap, ◌∙◌, subst, inl, inr, ⊎_elim, arith, eq-eqb, ne_eqb, eqb-true}
-use borrow.Author.Tests.{eqb-false}
-use Rattle.std.proofs.lemmas.Bool.{and_parts, and_from}
-use Rattle.std.proofs.lemmas.List.{get_or-set_same, get_or-set_other}
+use Rattle.std.proofs.Common.{◌≡◌, ℕ, ◌+◌, ◌%◌, ◌<◌, ◌≤◌, Bool, true, false, cond, eqb, ltb, ◌⊎◌, List, [], ◌∷◌, ◌++◌, length, Some, None, Option, sym, refl, ap, ◌∙◌, subst, inl, inr, ⊎_elim, arith, eq-eqb, ne_eqb, eqb-true}
+use Rattle.std.proofs.lemmas.Bool.{and_parts, and_from, ltb-true, ltb-false}
 use Rattle.std.specs.Option.{option_map}
 use Rattle.std.specs.List.{slice_get}
-use Rattle.frames.specs.Packet.{Packet, covered, frame_bits}
-use Rattle.queue.specs.Entries.{entries, pushed}
+use Rattle.frames.specs.Packet.{covered, frame_bits}
+use Rattle.queue.specs.Entries.{entries}
 use Rattle.registers.specs.declared.pipe.Pipe.{Pipe}
 use Rattle.registers.specs.Pipes.{index_of}
-use Rattle.modes.specs.Modes.{is_waiting}
 use Rattle.unit.specs.declared.entry.Received.{Received}
 use Rattle.unit.specs.declared.memory.Memory.{Memory}
-use Rattle.unit.specs.declared.memory.Memories.{Memories}
 use Rattle.unit.specs.declared.state.State.{State}
-use Rattle.unit.specs.Entries.{data_of}
-use Rattle.unit.specs.Units.{retry_of}
-use Rattle.unit.specs.Hearing.{recalled, same_memory, remembered, taken}
+use Rattle.unit.specs.Hearing.{recalled, same_memory}
 use Rattle.cell.specs.declared.air.Frame.{Frame}
-use Rattle.cell.specs.declared.air.Air.{Air}
-use Rattle.cell.specs.declared.air.Air.TheVariants.{Empty, Holds}
+use Rattle.cell.specs.declared.air.Air.TheVariants.{Holds}
 use Rattle.cell.specs.declared.parts.Inside.{Inside}
 use Rattle.cell.specs.Air.{frame_of}
 use Rattle.cell.specs.Making.{pipe_for, same_pipe}
@@ -29,9 +22,8 @@ use Rattle.law.specs.Law.{Payload, Answering, Exchange, Receipts, History, Write
 use Rattle.law.specs.Law.{pid_of, packet_by, check_of, Mistaken, Lawful}
 use Rattle.law.proofs.Terms.{Fits, Like, AllLike}
 use Rattle.law.proofs.Facts.{all_weaker, all_push, same_or_not}
-use Rattle.law.proofs.Inv.{Sendable, TriesOk, Pending, last_number, EntryOk, EntriesOk, TakenByNow, ReadByNow, Before, Rising, ReadBefore, OrderOk, TakenOk, packet_with, memory_with, MemoryOk, Settled, acknowledging, OnAir, AirOk, Inv}
-use Rattle.law.proofs.Changes.{like_changes, now_there, now_elsewhere, now_is}
-use Rattle.law.proofs.Tails.{pushed_last}
+use Rattle.law.proofs.Inv.{Pending, last_number, EntryOk, EntriesOk, TakenByNow, Before, Rising, ReadBefore, OrderOk, TakenOk, packet_with, memory_with, MemoryOk, Settled, acknowledging, OnAir, Inv}
+use Rattle.law.proofs.Changes.{like_changes, now_there, now_elsewhere}
 use Rattle.law.proofs.Carrying.{tries_carried}
 
 -- ---- the last payload taken
@@ -220,8 +212,8 @@ module _ (w : ℕ) (f : List Bool → ℕ) where
         below : (i j : ℕ) → i ≤ j → (i ≡ j → ⊥) → i < j
         below i j le ne = by (ltb i j) refl where
           by : (t : Bool) → ltb i j ≡ t → i < j
-          by true e = borrow.Author.Tests.ltb-true i j e
-          by false e = absurd (ne (omega (arith, le, borrow.Author.Tests.ltb-false i j e)))
+          by true e = ltb-true i j e
+          by false e = absurd (ne (omega (arith, le, ltb-false i j e)))
 
   module _ (k n : ℕ) (taken : List Payload) (fresh : (v : ℕ) → last_number k taken ≡ Some v → v < n) where
     abbrev new : Payload

@@ -1,5 +1,5 @@
 -- The weakened cells: what each run writes down is computed, and the rest follows from that.
-use Rattle.std.proofs.Common.{◌≡◌, ℕ, zero, suc, Bool, true, ◌&&◌, ltb, List, [], ◌∷◌, get_or, replicate, Some, None, Option, sym, refl, ap, subst, inl, inr, ⊎_elim, arith}
+use Rattle.std.proofs.Common.{◌≡◌, ℕ, zero, suc, Bool, true, ◌&&◌, ltb, List, [], ◌∷◌, get_or, replicate, Some, None, Option, sym, refl, ap, subst, inl, ⊎_elim, arith}
 use Rattle.std.proofs.lemmas.Bool.{ltb-true, and_parts}
 use Rattle.checks.specs.Bits.{word, bits}
 use Rattle.checks.specs.Crc.{crc8}
@@ -15,7 +15,7 @@ use Rattle.cell.specs.Making.{unit_at_fault, sender_at_fault}
 use Rattle.cell.specs.Calls.{heard_from}
 use Rattle.law.specs.Lists.{All}
 use Rattle.law.specs.Runs.{Call, command, ce, tick, carry}
-use Rattle.law.specs.Law.{Payload, Answering, Counting, Read, Exchange, Writes, History, bytes_of, latest, history_from, history}
+use Rattle.law.specs.Law.{Payload, Answering, Counting, Read, Exchange, Writes, bytes_of, latest, history_from, history}
 use Rattle.law.specs.Law.{ReadsAWrite, InOrder, Mistaken, Accounted, OverBudget, OfBytes, OfBytesInside, check_of}
 use Rattle.law.specs.Weakened.{of_receiver, of_sender, pair, frame_changed, answer_lost, answer_heard, identity_again, frames_lost, RunsOfTheLaw, SaidByTheLaw, blind, forgetting, keeping_none, counting_from_1, weakened_history, BlindReads, ForgettingReads, KeepingNoneAnswers, BlindAnswers, CountingFrom1GivesUp}
 

@@ -18,8 +18,8 @@ use Rattle.registers.specs.Readings.{width_of}
 use Rattle.commands.specs.declared.refusal.Refusal.{Refusal}
 use Rattle.commands.specs.Refusals.{kept_or}
 use Rattle.bench.specs.Checking.{is_receiver}
-use Rattle.modes.specs.declared.core.Core.{Core}
-use Rattle.modes.specs.declared.core.Role.TheVariants.{Sender}
+use Rattle.modes.specs.declared.parts.Core.{Core}
+use Rattle.modes.specs.declared.parts.Role.TheVariants.{Sender}
 use Rattle.modes.specs.Modes.{resting, is_waiting, is_rx, acknowledged}
 use Rattle.unit.specs.declared.entry.Data.{Data}
 use Rattle.unit.specs.declared.memory.Memory.{Memory}

@@ -1,6 +1,6 @@
 -- Every carry keeps the invariant.
-use Rattle.std.proofs.Common.{◌≡◌, ℕ, zero, suc, ◌+◌, ◌-◌, ◌*◌, ◌%◌, ◌^◌, ◌<◌, ◌≤◌, Bool, true, false, cond, not, ◌&&◌, ◌||◌, eqb, ltb, leb, ◌⊎◌, List, [], ◌∷◌, ◌++◌, length, get_or, Some, None, Ok, Err, Option, sym, refl, ap, ◌∙◌, subst, inl, inr, ⊎_elim, arith, length-drop, le-ltb, lt-ltb, eq-eqb, ne_eqb, leb-true}
-use Rattle.std.proofs.lemmas.Bool.{and_parts, and_from, cond-true, cond-false, cond_both}
+use Rattle.std.proofs.Common.{◌≡◌, ℕ, zero, suc, ◌+◌, ◌-◌, ◌^◌, ◌<◌, ◌≤◌, Bool, true, false, cond, ◌&&◌, eqb, ltb, leb, ◌⊎◌, List, [], ◌∷◌, length, get_or, Some, None, Ok, Err, Option, sym, refl, ap, ◌∙◌, subst, inl, inr, ⊎_elim, arith, length-drop, le-ltb, lt-ltb, eq-eqb, ne_eqb, leb-true}
+use Rattle.std.proofs.lemmas.Bool.{and_parts, cond-true, cond-false, cond_both}
 use Rattle.std.proofs.lemmas.Slice.Eq.{bytes_eq-Decides}
 use Rattle.std.specs.Str.{bytes_eq}
 use Rattle.std.specs.Option.{option_map}
@@ -31,19 +31,19 @@ use Rattle.cell.specs.Refusals.{refusal_of}
 use Rattle.cell.specs.Air.{frame_of, air_of, fate_of, fate_allowed}
 use Rattle.cell.specs.Making.{pipe_for, same_pipe}
 use Rattle.cell.specs.Calls.{unit_at, with_unit, with_air, carry_result_by, carried_so, carried_if, carried_by, carried}
-use Rattle.law.specs.Lists.{All, SomeOf, In}
-use Rattle.law.specs.Runs.{Call, carry, Outcome as Answer, answer_of, outcome}
-use Rattle.law.specs.Law.{Payload, Counting, Exchange, History, Writes, at, oldest, rx_length, tx_length, spoils, ready, ready_by, accepts, pipe_of_sender, bytes_of, touched, touching, taking, answering, shrank, note_counting, note_frame, note_aired, note_fate, note}
+use Rattle.law.specs.Lists.{SomeOf, In}
+use Rattle.law.specs.Runs.{carry, answer_of, outcome}
+use Rattle.law.specs.Law.{Payload, History, at, oldest, rx_length, tx_length, spoils, ready, ready_by, pipe_of_sender, touched, touching, taking, answering, shrank, note_counting, note_frame, note_aired, note_fate, note}
 use Rattle.law.specs.Law.{Mistaken, OfBytesInside}
-use Rattle.law.proofs.Terms.{Fits, Like, AllLike, hears_packet, each_hears, answer_to, hearing}
+use Rattle.law.proofs.Terms.{Fits, Like, hears_packet, each_hears, answer_to, hearing}
 use Rattle.law.proofs.Facts.{same_or_not, at_there, at_elsewhere, nth_all}
-use Rattle.law.proofs.Inv.{Sendable, SenderOk, last_number, Pending, Settled, PayloadFrame, AnswerFrame, acknowledging, packet_with, memory_with, OnAir, AirOk, Inv}
+use Rattle.law.proofs.Inv.{Sendable, SenderOk, last_number, Pending, Settled, acknowledging, packet_with, OnAir, AirOk, Inv}
 use Rattle.law.proofs.Changes.{now_there, now_elsewhere}
 use Rattle.law.proofs.Tails.{popped_rest, tail_length, waiting_tries}
 use Rattle.law.proofs.Carries.{carries}
 use Rattle.law.proofs.Carrying.{by_places, none_counted, same_shrank, none_taken, quiet_carry}
 use Rattle.law.proofs.Answering.{pipe_stays, pipe_is}
-use Rattle.law.proofs.Hearings.{same_place, makes_entry, receiver_cases, after_hearing}
+use Rattle.law.proofs.Hearings.{makes_entry, receiver_cases, after_hearing}
 use Rattle.law.proofs.Delivered.{delivers}
 
 -- ---- units of the cell now, and as it was made

@@ -1,21 +1,20 @@
 -- A carry after which the air is empty and no unit changed; and what every carry needs.
-use Rattle.std.proofs.Common.{◌≡◌, ℕ, zero, suc, ◌+◌, ◌-◌, ◌*◌, ◌%◌, ◌<◌, ◌≤◌, Bool, true, false, cond, not, ◌&&◌, ◌||◌, eqb, ltb, ◌⊎◌, List, [], ◌∷◌, ◌++◌, length, get_or, drop, replicate, Some, None, Option, sym, refl, ap, ◌∙◌, subst, inl, inr, ⊎_elim, append-nil, arith, le-ltb}
-use mathlib.Core.Path.{fun_ext}
-use Rattle.modes.specs.declared.core.Mode.{Mode}
-use Rattle.modes.specs.declared.core.Mode.TheVariants.{Shutdown, Starting, Standby, IdleTx, Tuning, Rx, Waiting}
+use Rattle.std.proofs.Common.{◌≡◌, ℕ, suc, ◌≤◌, Bool, true, false, cond, ◌&&◌, ◌||◌, ltb, ◌⊎◌, List, [], ◌∷◌, length, drop, Some, Option, sym, refl, ap, ◌∙◌, subst, inl, inr, ⊎_elim, append-nil, arith, le-ltb}
+use Rattle.std.proofs.Math.Path.{fun_ext}
+use Rattle.modes.specs.declared.parts.Mode.{Mode}
+use Rattle.modes.specs.declared.parts.Mode.TheVariants.{Shutdown, Starting, Standby, IdleTx, Tuning, Rx, Waiting}
 use Rattle.modes.specs.Modes.{is_waiting}
 use Rattle.unit.specs.declared.state.State.{State}
 use Rattle.unit.specs.Units.{retry_of}
-use Rattle.cell.specs.declared.air.Frame.{Frame}
 use Rattle.cell.specs.declared.air.Air.{Air}
 use Rattle.cell.specs.declared.air.Air.TheVariants.{Empty, Holds}
 use Rattle.cell.specs.declared.parts.Inside.{Inside}
 use Rattle.cell.specs.Calls.{unit_at, with_air}
 use Rattle.law.specs.Lists.{All}
-use Rattle.law.specs.Law.{Payload, Exchange, Counting, History, Writes, Trials, at, oldest, rx_length, tx_length, touched, touching, taking, answering, shrank, note_counting, with_receipts}
+use Rattle.law.specs.Law.{Payload, Exchange, Counting, History, at, oldest, tx_length, touched, touching, taking, shrank, note_counting, with_receipts}
 use Rattle.law.proofs.Terms.{Like}
 use Rattle.law.proofs.Facts.{at_there, at_elsewhere, same_or_not}
-use Rattle.law.proofs.Inv.{Failed, TriesOk, WaitsOk, Pending, OnAir, AirOk, Inv}
+use Rattle.law.proofs.Inv.{Failed, TriesOk, Pending, AirOk, Inv}
 use Rattle.law.proofs.Ticks.{repend}
 
 -- ---- the units by their places are all that counts

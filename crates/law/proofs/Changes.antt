@@ -1,8 +1,6 @@
 -- One unit changes, and the notes with it: what the rest of the invariant asks.
-use Rattle.std.proofs.Common.{◌≡◌, ℕ, zero, suc, ◌+◌, ◌%◌, ◌<◌, ◌≤◌, Bool, true, false, cond, ◌⊎◌, List, [], ◌∷◌, ◌++◌, length, get_or, set, Some, None, Option, sym, refl, ap, ◌∙◌, subst, inl, inr, ⊎_elim, arith}
-use Rattle.std.specs.List.{slice_get}
+use Rattle.std.proofs.Common.{◌≡◌, ℕ, ◌≤◌, Bool, true, List, [], length, Some, None, Option, sym, refl, ap, ◌∙◌, subst, inl, inr, ⊎_elim, arith}
 use Rattle.queue.specs.Entries.{entries}
-use Rattle.registers.specs.declared.pipe.Pipe.{Pipe}
 use Rattle.modes.specs.Modes.{is_waiting}
 use Rattle.unit.specs.declared.state.State.{State}
 use Rattle.unit.specs.Units.{retry_of}
@@ -17,7 +15,7 @@ use Rattle.law.specs.Law.{Payload, Read, Writes, Trials, Receipts, History, with
 use Rattle.law.specs.Law.{ReadsAWrite, InOrder, OverBudget, Lawful}
 use Rattle.law.proofs.Terms.{Like, AllLike}
 use Rattle.law.proofs.Facts.{same_or_not, set_there, set_elsewhere, there_within}
-use Rattle.law.proofs.Inv.{SenderOk, TriesOk, Pending, EntriesOk, MemoryOk, last_number, OrderOk, TakenOk, PayloadFrame, AnswerFrame, OnAir, AirOk, Inv}
+use Rattle.law.proofs.Inv.{SenderOk, TriesOk, Pending, EntriesOk, MemoryOk, last_number, OrderOk, PayloadFrame, OnAir, AirOk, Inv}
 use Rattle.law.proofs.Grows.{Extends, entries_grow, taken_grows, mistaken_grows, accounted_grows, memory_grows, reads_grow}
 
 -- ---- a unit in place of another

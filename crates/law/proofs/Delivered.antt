@@ -1,12 +1,11 @@
 -- A sender accepts the acknowledgement of its oldest payload.
-use Rattle.std.proofs.Common.{◌≡◌, ℕ, zero, suc, ◌+◌, ◌-◌, ◌%◌, ◌<◌, ◌≤◌, Bool, true, false, cond, not, ◌&&◌, ◌||◌, eqb, ltb, ◌⊎◌, List, [], ◌∷◌, ◌++◌, length, drop, Some, None, Option, sym, refl, ap, ◌∙◌, subst, inl, inr, ⊎_elim, arith, lt-ltb}
-use borrow.Author.Tests.{eqb-false}
-use Rattle.std.proofs.lemmas.Bool.{and_parts}
+use Rattle.std.proofs.Common.{◌≡◌, ℕ, suc, ◌<◌, ◌≤◌, Bool, true, false, cond, not, ◌&&◌, eqb, ◌⊎◌, List, [], ◌∷◌, length, drop, Some, None, sym, refl, ap, ◌∙◌, subst, inl, inr, ⊎_elim, arith, lt-ltb}
+use Rattle.std.proofs.lemmas.Bool.{and_parts, not-true, eqb-false}
 use Rattle.queue.specs.Entries.{entries, popped}
-use Rattle.modes.specs.declared.core.Core.{Core}
-use Rattle.modes.specs.declared.core.Mode.{Mode}
-use Rattle.modes.specs.declared.core.Mode.TheVariants.{Shutdown, Starting, Standby, IdleTx, Tuning, Rx, Waiting}
-use Rattle.modes.specs.declared.core.Role.TheVariants.{Sender}
+use Rattle.modes.specs.declared.parts.Core.{Core}
+use Rattle.modes.specs.declared.parts.Mode.{Mode}
+use Rattle.modes.specs.declared.parts.Mode.TheVariants.{Shutdown, Starting, Standby, IdleTx, Tuning, Rx, Waiting}
+use Rattle.modes.specs.declared.parts.Role.TheVariants.{Sender}
 use Rattle.modes.specs.Modes.{is_waiting, resting, acknowledged}
 use Rattle.unit.specs.declared.state.State.{State}
 use Rattle.unit.specs.Units.{retry_of}
@@ -16,7 +15,7 @@ use Rattle.cell.specs.declared.air.Air.TheVariants.{Empty, Holds}
 use Rattle.cell.specs.declared.parts.Inside.{Inside}
 use Rattle.cell.specs.Calls.{unit_at, with_unit, with_air}
 use Rattle.law.specs.Lists.{All, SomeOf, In}
-use Rattle.law.specs.Law.{Payload, Counting, Exchange, History, Writes, Trials, oldest}
+use Rattle.law.specs.Law.{Counting, Exchange, History, Writes, oldest}
 use Rattle.law.specs.Law.{Mistaken, Accounted}
 use Rattle.law.proofs.Facts.{same_or_not}
 use Rattle.law.proofs.Inv.{SenderOk, trying, TriesOk, Pending, numbered, AirOk, Inv}
@@ -24,16 +23,16 @@ use Rattle.law.proofs.Grows.{Extends, mistaken_grows}
 use Rattle.law.proofs.Changes.{sender_changes, now_there}
 use Rattle.law.proofs.Tails.{popped_rest, tail_rest, tail_length, tries_none, waiting_tries}
 use Rattle.law.proofs.Senders.{resting_idle}
-use Rattle.law.proofs.Ticks.{not-true, repend}
+use Rattle.law.proofs.Ticks.{repend}
 
 -- ---- modes
 
 -- after an acknowledgement a new transaction begins, or nothing is under way
-abbrev Rested : Core → Core
-Rested b = record { ce = b.ce; mode = resting Sender b.ce; config = b.config; flags = record { rx_dr = b.flags.rx_dr; tx_ds = true; max_rt = b.flags.max_rt }; counts = b.counts }
+abbrev rested : Core → Core
+rested b = record { ce = b.ce; mode = resting Sender b.ce; config = b.config; flags = record { rx_dr = b.flags.rx_dr; tx_ds = true; max_rt = b.flags.max_rt }; counts = b.counts }
 
-abbrev Begun : Core → Core
-Begun b = record {
+abbrev begun : Core → Core
+begun b = record {
   ce = b.ce;
   mode = Tuning 13;
   config = b.config;
@@ -41,12 +40,12 @@ Begun b = record {
   counts = record { again = 0; lost = b.counts.lost };
 }
 
-either : (P : Core → Type 0) (b : Core) (x left : Bool) → (left ≡ true → P (Begun b)) → P (Rested b) → b.ce && left ≡ x → P (cond x (Begun b) (Rested b))
+either : (P : Core → Type 0) (b : Core) (x left : Bool) → (left ≡ true → P (begun b)) → P (rested b) → b.ce && left ≡ x → P (cond x (begun b) (rested b))
 either P b true left begins rests e = begins (and_parts b.ce left e).1
 either P b false left begins rests e = rests
 
 -- P of the core after an acknowledgement
-pub after_acknowledgement : (P : Core → Type 0) (b : Core) (left : Bool) → (left ≡ true → P (Begun b)) → P (Rested b) → P (acknowledged left b)
+pub after_acknowledgement : (P : Core → Type 0) (b : Core) (left : Bool) → (left ≡ true → P (begun b)) → P (rested b) → P (acknowledged left b)
 after_acknowledgement P b left begins rests = either P b (b.ce && left) left begins rests refl
 
 module _ (w : ℕ) (f : List Bool → ℕ) where

@@ -21,9 +21,9 @@ use Rattle.commands.specs.declared.flags.Flags.{Flags}
 use Rattle.commands.specs.Status.{no_flags}
 use Rattle.bench.specs.Checking.{is_receiver, in_use, tx_addr_fault, fault_of}
 use Rattle.bench.proofs.Lowest.{lowest}
-use Rattle.modes.specs.declared.core.Core.{Core}
-use Rattle.modes.specs.declared.core.Mode.{Mode}
-use Rattle.modes.specs.declared.core.Mode.TheVariants.{Shutdown, Starting, Standby, IdleTx, Tuning, Rx, Waiting}
+use Rattle.modes.specs.declared.parts.Core.{Core}
+use Rattle.modes.specs.declared.parts.Mode.{Mode}
+use Rattle.modes.specs.declared.parts.Mode.TheVariants.{Shutdown, Starting, Standby, IdleTx, Tuning, Rx, Waiting}
 use Rattle.unit.specs.declared.entry.Outgoing.{Outgoing}
 use Rattle.unit.specs.declared.entry.Received.{Received}
 use Rattle.unit.specs.declared.memory.Memory.{Memory}

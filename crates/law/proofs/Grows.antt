@@ -1,18 +1,18 @@
 -- More was written, and more is gone: what was known of payloads stays true.
-use Rattle.std.proofs.Common.{◌≡◌, ℕ, zero, suc, ◌+◌, ◌%◌, ◌<◌, ◌≤◌, Bool, true, false, cond, ◌⊎◌, List, [], ◌∷◌, ◌++◌, length, Some, None, Option, sym, refl, ap, ◌∙◌, subst, inl, inr, ⊎_elim, arith}
+use Rattle.std.proofs.Common.{◌≡◌, ℕ, ◌≤◌, Bool, List, [], ◌∷◌, Some, None, Option, sym, refl, subst, inl, inr, ⊎_elim, arith}
 use Rattle.std.specs.Option.{option_map}
 use Rattle.std.specs.List.{slice_get}
-use Rattle.frames.specs.Packet.{Packet, covered}
+use Rattle.frames.specs.Packet.{covered}
 use Rattle.unit.specs.declared.entry.Received.{Received}
 use Rattle.unit.specs.declared.memory.Memory.{Memory}
 use Rattle.unit.specs.declared.state.State.{State}
 use Rattle.cell.specs.declared.parts.Inside.{Inside}
 use Rattle.cell.specs.Calls.{unit_at}
-use Rattle.law.specs.Lists.{All, SomeOf, In}
+use Rattle.law.specs.Lists.{All, SomeOf}
 use Rattle.law.specs.Law.{Payload, Answering, Counting, Read, Writes, bytes_of}
 use Rattle.law.specs.Law.{ReadsAWrite, pid_of, packet_by, check_of, Mistaken, Accounted}
 use Rattle.law.proofs.Facts.{all_weaker}
-use Rattle.law.proofs.Inv.{EntryOk, EntriesOk, TakenOk, MemoryOk}
+use Rattle.law.proofs.Inv.{EntriesOk, TakenOk, MemoryOk}
 
 pub record Extends (x y : Writes) : Type 0 where
   pub more : (k n : ℕ) (d : List ℕ) → slice_get (x.written k) n ≡ Some d → slice_get (y.written k) n ≡ Some d

@@ -1,34 +1,28 @@
 -- A payload's frame is heard: the receiver drops it, answers a repeat, or takes the payload.
-use Rattle.std.proofs.Common.{◌≡◌, ℕ, zero, suc, ◌+◌, ◌-◌, ◌*◌, ◌%◌, ◌<◌, ◌≤◌, Bool, true, false, cond, not, ◌&&◌, ◌||◌, eqb, ltb, leb, ◌⊎◌, List, [], ◌∷◌, ◌++◌, length, get_or, drop, set, replicate, Some, None, Option, sym, refl, ap, ◌∙◌, subst, inl, inr, ⊎_elim, arith, le-ltb, eq-eqb, ne_eqb, eqb-true}
-use borrow.Author.Tests.{eqb-false}
-use Rattle.std.proofs.lemmas.Bool.{and_parts, and_from, le-leb, cond-true, cond-false, cond_both}
+use Rattle.std.proofs.Common.{◌≡◌, ℕ, ◌-◌, Bool, true, false, cond, ◌&&◌, eqb, ltb, leb, ◌⊎◌, List, [], ◌∷◌, ◌++◌, length, Some, None, sym, refl, ap, ◌∙◌, subst, inl, inr, ⊎_elim, arith, le-ltb, eqb-true}
+use Rattle.std.proofs.lemmas.Bool.{and_from, le-leb, cond-true, cond_both, eqb-false}
 use Rattle.std.proofs.lemmas.List.{get_or-set_same, get_or-set_other, length-set, length_push}
-use Rattle.std.specs.Option.{option_map}
-use Rattle.std.specs.List.{slice_get}
 use Rattle.frames.specs.Packet.{Packet, covered, frame_bits}
-use Rattle.queue.specs.Entries.{entries, pushed}
+use Rattle.queue.specs.Entries.{entries}
 use Rattle.registers.specs.declared.pipe.Pipe.{Pipe}
 use Rattle.registers.specs.File.{byte_of}
 use Rattle.registers.specs.Pipes.{index_of, width_register}
 use Rattle.bench.specs.Checking.{is_receiver}
-use Rattle.modes.specs.Modes.{is_waiting, is_rx}
-use Rattle.unit.specs.declared.entry.Received.{Received}
+use Rattle.modes.specs.Modes.{is_rx}
 use Rattle.unit.specs.declared.entry.Data.{Data}
 use Rattle.unit.specs.declared.memory.Memory.{Memory}
 use Rattle.unit.specs.declared.state.State.{State}
 use Rattle.unit.specs.Entries.{data_of, entry_of}
 use Rattle.unit.specs.Ticking.{bits_of}
-use Rattle.unit.specs.Hearing.{recalled, same_memory, remembered, pipe_of, Outcome, dropped, acknowledgement, answered, taken, fresh, on_its_pipe, is_acknowledgement, heard_by_sender, delivered, hears}
+use Rattle.unit.specs.Hearing.{recalled, same_memory, pipe_of, Outcome, dropped, answered, taken, fresh, on_its_pipe, hears}
 use Rattle.cell.specs.declared.air.Frame.{Frame}
-use Rattle.cell.specs.declared.air.Air.{Air}
 use Rattle.cell.specs.declared.air.Air.TheVariants.{Empty, Holds}
 use Rattle.cell.specs.declared.parts.Inside.{Inside}
 use Rattle.cell.specs.Air.{frame_of, air_of}
 use Rattle.cell.specs.Making.{pipe_for, same_pipe}
 use Rattle.cell.specs.Calls.{unit_at, with_unit, with_air}
-use Rattle.law.specs.Lists.{All, SomeOf, In}
-use Rattle.law.specs.Law.{Payload, History, Writes, at, touched, touching, taking, answering, pipe_of_sender, latest, bytes_of, accepts, ready_by, ready}
-use Rattle.law.proofs.Terms.{Fits, Like, AllLike, hears_packet, each_hears, answer_to, hearing}
+use Rattle.law.specs.Law.{Payload, History, touching, taking, answering, pipe_of_sender, latest}
+use Rattle.law.proofs.Terms.{Fits}
 use Rattle.law.proofs.Facts.{same_or_not}
 use Rattle.law.proofs.Inv.{Sendable, last_number, Pending, MemoryOk, Settled, PayloadFrame, acknowledging, packet_with, memory_with, OnAir, Inv}
 use Rattle.law.proofs.Changes.{now_there, now_elsewhere}
@@ -36,7 +30,7 @@ use Rattle.law.proofs.Tails.{pushed_last}
 use Rattle.law.proofs.Ticks.{some_bits}
 use Rattle.law.proofs.Carries.{index_below}
 use Rattle.law.proofs.Carrying.{and_false, by_places, none_taken, quiet_carry}
-use Rattle.law.proofs.Answering.{last_new, last_other, pipe_stays, pipe_is, latest_is, answers, repeated, newer, order_push, entries_push}
+use Rattle.law.proofs.Answering.{last_new, last_other, pipe_is, answers, repeated, newer, order_push, entries_push}
 
 nobody : (a b : Bool) → a && (b && false) ≡ false
 nobody a b = ap (λ z. a && z) (and_false b) ∙ and_false a

@@ -1,6 +1,5 @@
 -- What every call keeps: the cell against what was written down of it.
-use Rattle.std.proofs.Common.{◌≡◌, ℕ, zero, suc, ◌+◌, ◌%◌, ◌<◌, ◌≤◌, Bool, true, false, cond, eqb, ◌⊎◌, List, [], ◌∷◌, ◌++◌, map, length, drop, Some, None, Option}
-use Rattle.std.specs.Option.{option_map}
+use Rattle.std.proofs.Common.{◌≡◌, ℕ, zero, suc, ◌+◌, ◌%◌, ◌<◌, ◌≤◌, Bool, true, false, cond, eqb, ◌⊎◌, List, [], ◌∷◌, length, drop, Some, None, Option}
 use Rattle.std.specs.List.{slice_get}
 use Rattle.frames.specs.Packet.{Packet, Bytes, covered, frame_bits}
 use Rattle.frames.specs.declared.fields.Pid.{Pid}
@@ -8,8 +7,8 @@ use Rattle.frames.specs.declared.fields.Pid.TheVariants.{Zero}
 use Rattle.frames.specs.Calls.{next_pid}
 use Rattle.queue.specs.Entries.{entries}
 use Rattle.registers.specs.declared.pipe.Pipe.{Pipe}
-use Rattle.modes.specs.declared.core.Mode.{Mode}
-use Rattle.modes.specs.declared.core.Mode.TheVariants.{Shutdown, Starting, Standby, IdleTx, Tuning, Rx, Waiting}
+use Rattle.modes.specs.declared.parts.Mode.{Mode}
+use Rattle.modes.specs.declared.parts.Mode.TheVariants.{Shutdown, Starting, Standby, IdleTx, Tuning, Rx, Waiting}
 use Rattle.modes.specs.Modes.{is_waiting}
 use Rattle.unit.specs.declared.entry.Outgoing.{Outgoing}
 use Rattle.unit.specs.declared.entry.Received.{Received}
@@ -25,9 +24,9 @@ use Rattle.cell.specs.declared.parts.Inside.{Inside}
 use Rattle.cell.specs.Air.{frame_of}
 use Rattle.cell.specs.Calls.{unit_at}
 use Rattle.law.specs.Lists.{All, SomeOf, In}
-use Rattle.law.specs.Law.{Payload, Answering, Counting, Read, Exchange, Writes, History, pipe_of_sender}
+use Rattle.law.specs.Law.{Payload, Answering, Read, Exchange, Writes, History, pipe_of_sender}
 use Rattle.law.specs.Law.{Mistaken, Lawful}
-use Rattle.law.proofs.Terms.{Like, AllLike}
+use Rattle.law.proofs.Terms.{AllLike}
 
 -- ---- a sender's queue is the tail of what it wrote
 

@@ -15,7 +15,7 @@ use Rattle.commands.specs.Decode.{Order, read_register, write_register, write_pa
 use Rattle.commands.specs.Refusals.{first_of, unless, kept_or}
 use Rattle.commands.specs.Status.{weigh, status_of}
 use Rattle.bench.specs.Checking.{is_receiver}
-use Rattle.modes.specs.declared.core.Core.{Core}
+use Rattle.modes.specs.declared.parts.Core.{Core}
 use Rattle.unit.specs.declared.entry.Received.{Received}
 use Rattle.unit.specs.declared.state.State.{State}
 use Rattle.unit.specs.Entries.{data_bytes}

@@ -1,38 +1,34 @@
 -- Commands and CE at a sender keep the invariant.
-use Rattle.std.proofs.Common.{◌≡◌, ℕ, zero, suc, ◌+◌, ◌-◌, ◌%◌, ◌<◌, ◌≤◌, Bool, true, false, cond, not, ◌&&◌, ◌||◌, eqb, ltb, leb, ◌⊎◌, List, [], ◌∷◌, ◌++◌, length, get_or, take, drop, replicate, Some, None, Ok, Err, Option, Result, sym, refl, ap, ◌∙◌, subst, inl, inr, ⊎_elim, add-one, arith, leb-true}
+use Rattle.std.proofs.Common.{◌≡◌, ℕ, suc, ◌+◌, ◌-◌, ◌≤◌, Bool, true, false, cond, not, ◌&&◌, eqb, ltb, leb, List, [], ◌∷◌, ◌++◌, length, get_or, take, drop, replicate, Some, None, Ok, Err, Option, Result, sym, refl, ap, ◌∙◌, subst, inl, inr, add-one, arith, leb-true}
 use Rattle.std.proofs.lemmas.List.{length_push}
 use Rattle.std.proofs.lemmas.Bool.{and_parts}
 use Rattle.std.specs.List.{slice_get}
 use Rattle.frames.specs.Packet.{Bytes}
 use Rattle.frames.specs.Calls.{next_pid}
-use Rattle.queue.specs.Entries.{entries, pushed}
+use Rattle.queue.specs.Entries.{entries}
 use Rattle.registers.specs.declared.register.Register.{Register}
 use Rattle.registers.specs.Address.{address_of, register_at}
 use Rattle.commands.specs.declared.refusal.Refusal.{Refusal as UnitRefusal}
-use Rattle.commands.specs.declared.refusal.Refusal.TheVariants.{Fault, NotForUnit, DataLength, ReplyRoom, QueueFull, Unknown, NoCommand}
-use Rattle.commands.specs.Decode.{Order, read_register, write_register, write_payload, read_payload, flush_tx, flush_rx, nop, known, order_of, ordered, fits}
+use Rattle.commands.specs.declared.refusal.Refusal.TheVariants.{Fault, NotForUnit, DataLength, ReplyRoom, QueueFull, Unknown}
+use Rattle.commands.specs.Decode.{Order, read_register, write_register, write_payload, read_payload, flush_tx, flush_rx, nop, known, ordered}
 use Rattle.commands.specs.Refusals.{first_of, unless, kept_or}
 use Rattle.bench.specs.Checking.{is_receiver}
-use Rattle.modes.specs.declared.core.Core.{Core}
-use Rattle.modes.specs.declared.core.Mode.{Mode}
-use Rattle.modes.specs.declared.core.Mode.TheVariants.{Shutdown, Starting, Standby, IdleTx, Tuning, Rx, Waiting}
-use Rattle.modes.specs.declared.core.Role.{Role}
-use Rattle.modes.specs.declared.core.Role.TheVariants.{Sender, Receiver}
+use Rattle.modes.specs.declared.parts.Core.{Core}
+use Rattle.modes.specs.declared.parts.Mode.{Mode}
+use Rattle.modes.specs.declared.parts.Mode.TheVariants.{Shutdown, Starting, Standby, IdleTx, Tuning, Rx, Waiting}
+use Rattle.modes.specs.declared.parts.Role.TheVariants.{Sender, Receiver}
 use Rattle.modes.specs.Modes.{is_waiting, busy, resting, flushed as flushed_core, powered, reconfigured, raised, lowered, leveled as leveled_core}
 use Rattle.unit.specs.declared.state.State.{State}
 use Rattle.unit.specs.Entries.{data_of}
-use Rattle.unit.specs.Units.{role_of, retry_of, with_core, fault_refusal, or_else}
-use Rattle.unit.specs.Commanding.{receiver, tx_full, refusals, order_refusal, refusal, written, queued, done, done_by, answer_of, command_answer, command_after}
-use Rattle.unit.specs.Ticking.{ce_answer, ce_after}
+use Rattle.unit.specs.Units.{role_of, retry_of, with_core, or_else}
+use Rattle.unit.specs.Commanding.{receiver, tx_full, refusals, order_refusal, refusal, written, queued, done, done_by, answer_of}
 use Rattle.cell.specs.declared.parts.Inside.{Inside}
 use Rattle.cell.specs.Refusals.{of_the_unit}
-use Rattle.cell.specs.Calls.{unit_at, with_unit, command_result, command_reply, commanded, command_answer_by, commanded_by, reply_by, ce_result_by, leveled, leveled_by}
-use Rattle.law.specs.Lists.{All}
-use Rattle.law.specs.Runs.{Call, command, ce, Outcome, replied, done as accepted, refused, reply_of, answer_of as answer_outcome, outcome}
-use Rattle.law.specs.Law.{History, Writes, Trials, at, wrote, flushed, note_order, note}
+use Rattle.cell.specs.Calls.{unit_at, with_unit, commanded, command_answer_by, commanded_by, reply_by, leveled, leveled_by}
+use Rattle.law.specs.Runs.{command, ce, Outcome, replied, done as accepted, refused, reply_of, outcome}
+use Rattle.law.specs.Law.{History, at, wrote, flushed, note_order, note}
 use Rattle.law.proofs.Facts.{all_push, at_there, at_elsewhere, at_each, nth_push}
 use Rattle.law.proofs.Inv.{Sendable, trying, SenderOk, TriesOk, Pending, pid_at, numbered, Inv}
-use Rattle.law.proofs.Grows.{Extends}
 use Rattle.law.proofs.Changes.{sender_changes}
 use Rattle.law.proofs.Tails.{pushed_last, next_identity, tail_push, tail_none, Calm, tries_none, calm_tries, calm_waits, calm_busy, waiting_tries}
 

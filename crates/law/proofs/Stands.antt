@@ -1,5 +1,5 @@
 -- Every run is lawful.
-use Rattle.std.proofs.Common.{◌≡◌, ℕ, zero, suc, ◌^◌, ◌<◌, ◌≤◌, Bool, true, false, ◌⊎◌, List, [], ◌∷◌, ◌++◌, length, get_or, replicate, Some, None, Option, sym, refl, ap, ◌∙◌, subst, inl, inr, ⊎_elim, arith}
+use Rattle.std.proofs.Common.{◌≡◌, ℕ, zero, suc, ◌^◌, ◌<◌, ◌≤◌, Bool, true, false, List, [], ◌∷◌, length, replicate, Some, None, Option, sym, refl, ap, ◌∙◌, subst, arith}
 use Rattle.frames.specs.Damage.{PatternShows}
 use Rattle.queue.specs.Entries.{entries}
 use Rattle.registers.specs.declared.pipe.Pipe.{Pipe}
@@ -9,17 +9,15 @@ use Rattle.unit.specs.declared.state.State.{State}
 use Rattle.unit.specs.Units.{retry_of}
 use Rattle.unit.specs.Hearing.{recalled}
 use Rattle.unit.specs.Boxing.{boxed, no_memories}
-use Rattle.cell.specs.declared.air.Air.TheVariants.{Empty}
 use Rattle.cell.specs.declared.parts.Inside.{Inside}
-use Rattle.cell.specs.Making.{NewlyMade}
 use Rattle.cell.specs.Calls.{unit_at, command_answer_by, commanded_by, reply_by, ce_result_by, leveled_by, tick_result_by, ticked_by}
 use Rattle.law.specs.Lists.{All}
-use Rattle.law.specs.Runs.{Call, command, ce, tick, carry, reply_of, answer_of, outcome, after, led}
-use Rattle.law.specs.Law.{History, nothing_yet, note, history_from, history}
+use Rattle.law.specs.Runs.{Call, command, ce, tick, carry, reply_of, answer_of, outcome, after}
+use Rattle.law.specs.Law.{History, nothing_yet, note, history_from}
 use Rattle.law.specs.Law.{Lawful, OfBytes, OfBytesInside, EveryRunIsLawful}
 use Rattle.law.proofs.Terms.{Fits, Like}
 use Rattle.law.proofs.Fits.{fits}
-use Rattle.law.proofs.Inv.{pid_at, numbered, trying, SenderOk, TriesOk, Pending, EntriesOk, last_number, MemoryOk, AirOk, Inv}
+use Rattle.law.proofs.Inv.{pid_at, numbered, trying, SenderOk, TriesOk, Pending, EntriesOk, last_number, AirOk, Inv}
 use Rattle.law.proofs.Senders.{sender_command, sender_ce}
 use Rattle.law.proofs.Ticks.{sender_tick}
 use Rattle.law.proofs.Receivers.{receiver_command, receiver_ce, receiver_tick}

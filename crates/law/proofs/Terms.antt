@@ -1,5 +1,5 @@
 -- The words of the proof: what a newly made cell gives, and what hearing is once a frame is read.
-use Rattle.std.proofs.Common.{◌≡◌, ℕ, suc, ◌≤◌, Bool, true, false, cond, eqb, List, [], ◌∷◌, length, get_or, Some, None, Option}
+use Rattle.std.proofs.Common.{◌≡◌, ℕ, suc, ◌≤◌, Bool, true, false, cond, eqb, List, [], ◌∷◌, length, Some, None, Option}
 use Rattle.std.specs.Option.{option_map}
 use Rattle.frames.specs.Packet.{Packet, covered}
 use Rattle.registers.specs.declared.pipe.Pipe.{Pipe}

@@ -1,54 +1,44 @@
 -- A tick of a sender keeps the invariant.
-use Rattle.std.proofs.Common.{◌≡◌, ℕ, zero, suc, ◌+◌, ◌-◌, ◌*◌, ◌%◌, ◌<◌, ◌≤◌, Bool, true, false, cond, not, ◌&&◌, ◌||◌, eqb, ltb, leb, ◌⊎◌, List, [], ◌∷◌, ◌++◌, length, get_or, take, drop, replicate, Some, None, Ok, Err, Option, Result, sym, refl, ap, ◌∙◌, subst, inl, inr, ⊎_elim, arith, ltb-false, ltb-true, lt-ltb, ne_eqb, eqb-true}
-use borrow.Author.Tests.{eqb-false}
-use Rattle.std.proofs.lemmas.Bool.{and_parts}
+use Rattle.std.proofs.Common.{◌≡◌, ℕ, suc, ◌+◌, ◌-◌, ◌%◌, ◌<◌, ◌≤◌, Bool, true, false, cond, not, ◌&&◌, eqb, ltb, List, [], ◌∷◌, ◌++◌, length, take, drop, replicate, Some, None, Option, sym, refl, ap, ◌∙◌, subst, inl, inr, ⊎_elim, arith, ltb-false, ltb-true, lt-ltb, ne_eqb, eqb-true}
+use Rattle.std.proofs.lemmas.Bool.{and_parts, not-true, eqb-false}
 use Rattle.std.proofs.lemmas.List.{length-append, take_at}
 use Rattle.std.specs.Option.{option_map}
-use Rattle.std.specs.List.{slice_get}
 use Rattle.checks.specs.Bits.{word}
 use Rattle.checks.specs.Places.{length_word}
 use Rattle.frames.specs.Packet.{Packet, covered, preamble, with_check, frame_bits}
 use Rattle.frames.specs.Calls.{pid_number}
 use Rattle.queue.specs.Entries.{entries, first}
 use Rattle.registers.specs.declared.register.Register.{Register}
-use Rattle.commands.specs.declared.refusal.Refusal.{Refusal as UnitRefusal}
 use Rattle.commands.specs.declared.refusal.Refusal.TheVariants.{Fault, FrameBytes}
 use Rattle.commands.specs.Refusals.{first_of, unless, kept_or}
 use Rattle.bench.specs.Checking.{is_receiver}
-use Rattle.modes.specs.declared.core.Core.{Core}
-use Rattle.modes.specs.declared.core.Retry.{Retry}
-use Rattle.modes.specs.declared.core.Mode.{Mode}
-use Rattle.modes.specs.declared.core.Mode.TheVariants.{Shutdown, Starting, Standby, IdleTx, Tuning, Rx, Waiting}
-use Rattle.modes.specs.declared.core.Role.{Role}
-use Rattle.modes.specs.declared.core.Role.TheVariants.{Sender, Receiver}
+use Rattle.modes.specs.declared.parts.Core.{Core}
+use Rattle.modes.specs.declared.parts.Retry.{Retry}
+use Rattle.modes.specs.declared.parts.Mode.{Mode}
+use Rattle.modes.specs.declared.parts.Mode.TheVariants.{Shutdown, Starting, Standby, IdleTx, Tuning, Rx, Waiting}
+use Rattle.modes.specs.declared.parts.Role.TheVariants.{Sender, Receiver}
 use Rattle.modes.specs.Modes.{is_waiting, resting, at_rest, in_mode, begun as begun_core, tuned, retried, given_up, tick_in, sends_in, wait_ticks}
 use Rattle.unit.specs.declared.entry.Outgoing.{Outgoing}
 use Rattle.unit.specs.declared.state.State.{State}
 use Rattle.unit.specs.Entries.{data_of, data_bytes}
-use Rattle.unit.specs.Units.{role_of, retry_of, tx_address, with_core, fault_refusal, or_else, payload_waits}
-use Rattle.unit.specs.Ticking.{packet, oldest_packet, sent, bits_of, tick_state, tick_refusal, tick_answer, tick_after}
+use Rattle.unit.specs.Units.{role_of, retry_of, tx_address, with_core, or_else, payload_waits}
+use Rattle.unit.specs.Ticking.{packet, oldest_packet, sent, bits_of, tick_state, tick_refusal}
 use Rattle.cell.specs.declared.air.Frame.{Frame}
 use Rattle.cell.specs.declared.air.Air.{Air}
 use Rattle.cell.specs.declared.air.Air.TheVariants.{Empty, Holds}
 use Rattle.cell.specs.declared.parts.Inside.{Inside}
 use Rattle.cell.specs.Refusals.{of_the_unit}
 use Rattle.cell.specs.Air.{air_of, frame_of}
-use Rattle.cell.specs.Calls.{unit_at, with_unit, with_air, done_if, tick_result_by, tick_bits, ticked, ticked_by}
+use Rattle.cell.specs.Calls.{unit_at, with_unit, with_air, done_if, tick_result_by, ticked, ticked_by}
 use Rattle.law.specs.Lists.{All}
-use Rattle.law.specs.Runs.{Call, tick, Outcome, answer_of, outcome}
-use Rattle.law.specs.Law.{Payload, Exchange, History, Writes, Trials, at, oldest, waits, begun, was_sent, gave_up, note_sending, note_giving_up, note_tick, note}
-use Rattle.law.specs.Law.{OverBudget, Lawful, one_if, spoiled_count}
-use Rattle.law.proofs.Terms.{Like, AllLike}
+use Rattle.law.specs.Runs.{tick, answer_of, outcome}
+use Rattle.law.specs.Law.{Payload, Exchange, History, Writes, at, oldest, waits, begun, was_sent, gave_up, note_sending, note_giving_up, note_tick, note}
+use Rattle.law.specs.Law.{OverBudget, one_if, spoiled_count}
 use Rattle.law.proofs.Facts.{at_there, at_elsewhere, at_each, drop_nth, nth_all}
 use Rattle.law.proofs.Inv.{Sendable, trying, SenderOk, Failed, TriesOk, WaitsOk, Pending, pid_at, numbered, packet_with, last_number, Settled, TakenOk, AirOk, Inv}
-use Rattle.law.proofs.Grows.{Extends}
 use Rattle.law.proofs.Changes.{sender_changes, like_changes, now_there, now_elsewhere, now_is}
-use Rattle.law.proofs.Tails.{identity_number, numbered_first, tail_first, tail_length, Calm, tries_none, no_tries, waiting_tries}
+use Rattle.law.proofs.Tails.{identity_number, numbered_first, tail_first, tail_length, tries_none, waiting_tries}
 use Rattle.law.proofs.Senders.{Quiet, quiet_sender, resting_idle}
-
-pub not-true : (b : Bool) → not b ≡ true → b ≡ false
-not-true true h = sym h
-not-true false h = refl
 
 -- ---- a transaction that fails
 

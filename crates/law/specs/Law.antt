@@ -1,7 +1,7 @@
 -- The law of every run of a cell: what an observer writes down while it runs, what the law says of these notes, and how they are taken.
 --
 -- The notes are taken from the cell before a call, the call, what it answered, and the cell after it. They say no step of the program again.
-use Rattle.std.specs.Prelude.{◌≡◌, ℕ, suc, ◌+◌, ◌-◌, ◌/◌, ◌%◌, ◌<◌, ◌≤◌, Bool, true, false, cond, not, ◌&&◌, ◌||◌, ◌⊎◌, List, [], ◌∷◌, ◌++◌, length, drop, replicate, Some, None, Ok, Err, Option, Result, ◌==◌, nat_lt, slice_index}
+use Rattle.std.specs.Prelude.{◌≡◌, ℕ, suc, ◌+◌, ◌-◌, ◌/◌, ◌%◌, ◌<◌, ◌≤◌, Bool, true, false, cond, ◌&&◌, ◌||◌, ◌⊎◌, List, [], ◌∷◌, ◌++◌, length, drop, replicate, Some, None, Ok, Err, Option, Result, ◌==◌, nat_lt, slice_index}
 use Rattle.std.specs.List.{slice_get}
 use Rattle.queue.specs.Entries.{entries, first}
 use Rattle.registers.specs.declared.pipe.Pipe.{Pipe}
@@ -11,7 +11,6 @@ use Rattle.commands.specs.declared.refusal.Refusal.{Refusal as UnitRefusal}
 use Rattle.commands.specs.Decode.{Order, read_register, write_register, write_payload, read_payload, flush_tx, flush_rx, nop, ordered}
 use Rattle.modes.specs.Modes.{is_waiting, is_rx}
 use Rattle.unit.specs.declared.state.State.{State}
-use Rattle.cell.specs.declared.air.Frame.{Frame}
 use Rattle.cell.specs.declared.air.Air.{Air}
 use Rattle.cell.specs.declared.air.Air.TheVariants.{Empty, Holds}
 use Rattle.cell.specs.declared.air.Fate.{Fate}

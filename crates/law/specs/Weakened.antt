@@ -1,6 +1,6 @@
 -- Weakened cells. Each breaks a statement of the law, in a run in which the cell as it is keeps it: the steps are the cell's own, but with
 -- a check that shows nothing, or with one unit changed after each.
-use Rattle.std.specs.Prelude.{◌≡◌, ℕ, ◌+◌, Bool, true, cond, List, [], ◌∷◌, ◌++◌, replicate, Some, None, Option, ◌==◌}
+use Rattle.std.specs.Prelude.{ℕ, ◌+◌, Bool, true, cond, List, [], ◌∷◌, ◌++◌, replicate, Some, None, Option, ◌==◌}
 use Rattle.checks.specs.Crc.{crc8}
 use Rattle.queue.specs.declared.queue.Queue.TheVariants.{Empty}
 use Rattle.registers.specs.declared.register.Register.TheVariants.{Config, EnRxaddr, RxPwP0}
