@@ -1,5 +1,5 @@
 -- What a line leaves as it was.
-use Rattle.std.proofs.Common.{◌≡◌, ℕ, ◌*◌, Bool, true, false, cond, leb, List, length, take, Some, None, Ok, Err, Option, Result, refl}
+use Rattle.std.proofs.Common.{ℕ, ◌*◌, Bool, true, false, cond, leb, List, length, take, Some, None, Ok, Err, Option, Result, refl}
 use Rattle.checks.specs.Bits.{bits}
 use Rattle.frames.specs.Packet.{Packet, reading}
 use Rattle.commands.specs.declared.refusal.Refusal.{Refusal}
@@ -10,7 +10,7 @@ use Rattle.desk.specs.declared.slot.Units.{Units}
 use Rattle.desk.specs.Slots.{Said}
 use Rattle.desk.specs.Desks.{kind_of, units_after, units_said, KeptUnlessDone}
 use Rattle.desk.proofs.Kept.{units_kept}
-use Rattle.results.specs.Outcomes.{check_width, check_meaning, Outcome, refused, found, found_field, unit_outcome, carried, units_after_request, Kept}
+use Rattle.results.specs.Outcomes.{check_width, check_meaning, refused, found, found_field, unit_outcome, carried, units_after_request, Kept}
 
 read_kept : (b : Bool) (o : Option Packet) (us : Units) → Kept (Ok (cond b (found o) (refused 18))) us us
 read_kept true (Some p) us = refl

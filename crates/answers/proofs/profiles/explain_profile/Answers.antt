@@ -1,5 +1,4 @@
-use Rattle.std.proofs.Common.{◌≡◌, ℕ, ◌+◌, List, ◌++◌, drop, vec_items, sym, ap, ◌∙◌, append_assoc, append-nil, arith}
-use Rattle.registers.specs.declared.register.Register.{Register}
+use Rattle.std.proofs.Common.{◌≡◌, ℕ, ◌+◌, ◌++◌, drop, vec_items, sym, ap, ◌∙◌, append_assoc, append-nil, arith}
 use Rattle.registers.specs.Address.{registers}
 use Rattle.std.proofs.lemmas.Result.{IfOk-from_err}
 use Rattle.bench.proofs.Walk.{next}

@@ -1,4 +1,4 @@
-use Rattle.std.proofs.Common.{[], ◌∷◌, length, drop, ap, ◌∙◌}
+use Rattle.std.proofs.Common.{[], ◌∷◌, length, drop, ap}
 use Rattle.words.specs.Numbers.{digits_shown}
 use Rattle.words.proofs.Chain.{and_then, said}
 use Rattle.answers.specs.Profiles.{blanks}
