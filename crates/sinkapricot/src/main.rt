@@ -4,6 +4,7 @@
 use script::{Console, Halt, feed};
 use std::fs::File;
 use std::io::{BufWriter, Write};
+use std::process::ExitCode;
 use std::{env, io};
 
 // Says on standard error why a script was not read to its end.
@@ -67,12 +68,15 @@ fn close<W: Write>(console: &Console, out: &mut W) -> io::Result<()> {
     out.flush()
 }
 
-fn main(rt: HostRuntime) -> io::Result<()> {
+fn run(rt: &HostRuntime) -> io::Result<()> {
     let mut console = Console::new();
-    let mut out = BufWriter::new(rt.alloc(), rt.stdout())?;
-    let fed = feed_all(&rt, &mut console, &mut out);
+    let mut out = match BufWriter::new(rt.alloc(), rt.stdout()) {
+        Ok(out) => out,
+        Err(_) => return Err(tell(rt, "standard output", Halt::Memory)),
+    };
+    let fed = feed_all(rt, &mut console, &mut out);
     if let Err(e) = close(&console, &mut out) {
-        return Err(tell(&rt, "", Halt::Output(e)));
+        return Err(tell(rt, "", Halt::Output(e)));
     }
     fed?;
     let (_, unable) = console.tally();
@@ -81,4 +85,12 @@ fn main(rt: HostRuntime) -> io::Result<()> {
         return Err(io::Error::other("some lines could not be carried out"));
     }
     Ok(())
+}
+
+// What failed was told by then, so it is not printed once more.
+fn main(rt: HostRuntime) -> ExitCode {
+    match run(&rt) {
+        Ok(()) => ExitCode::SUCCESS,
+        Err(_) => ExitCode::FAILURE,
+    }
 }
