@@ -28,10 +28,7 @@ pub fn feed<R: Read, W: Write>(
 where
     R: Drop,
 {
-    let mut input = match BufReader::new(heap, input) {
-        Ok(input) => input,
-        Err(_) => return Err(Halt::Memory),
-    };
+    let mut input = BufReader::new(heap, input).map_err(|_| Halt::Memory)?;
     let mut line: Vec<u8> = Vec::new(heap);
     let mut text: Vec<u8> = Vec::new(heap);
     for _ in 0..u64::MAX {

@@ -70,10 +70,8 @@ fn close<W: Write>(console: &Console, out: &mut W) -> io::Result<()> {
 
 fn run(rt: &HostRuntime) -> io::Result<()> {
     let mut console = Console::new();
-    let mut out = match BufWriter::new(rt.alloc(), rt.stdout()) {
-        Ok(out) => out,
-        Err(_) => return Err(tell(rt, "standard output", Halt::Memory)),
-    };
+    let out = BufWriter::new(rt.alloc(), rt.stdout());
+    let mut out = out.map_err(|_| tell(rt, "standard output", Halt::Memory))?;
     let fed = feed_all(rt, &mut console, &mut out);
     if let Err(e) = close(&console, &mut out) {
         return Err(tell(rt, "", Halt::Output(e)));
