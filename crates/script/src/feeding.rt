@@ -1,4 +1,7 @@
 // A script read line by line, its results written out.
+ghost use Rattle.std.specs.Prelude.{◌≡◌};
+ghost use Rattle.script.specs.declared.feeding.Halt.TheVariants.{Memory};
+
 use crate::running::Console;
 use std::alloc::{AllocError, Global};
 use std::io;
@@ -13,6 +16,8 @@ pub enum Halt {
 }
 
 impl From<AllocError> for Halt {
+    ghost from_gives = { λ _ r. r ≡ Memory };
+
     fn from(_e: AllocError) -> Halt {
         Halt::Memory
     }
