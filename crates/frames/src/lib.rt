@@ -5,12 +5,13 @@ mod bits;
 mod damage;
 mod fields;
 mod laws;
+mod layout;
 mod making;
 mod packing;
 mod reading;
 
 pub use damage::change;
-pub use fields::{Address, AddressWidth, Fields, Heard, Payload, Pid, Refusal};
+pub use fields::{Address, AddressWidth, Fields, Heard, OutOfRange, Payload, Pid, Refusal};
 pub use laws::{damage_shows, read_back, worked_cases};
 pub use packing::pack;
 pub use reading::read;
