@@ -15,10 +15,8 @@ impl<'a> Profile<'a> {
     pub fn read(bytes: &'a [u8]) -> Result<Profile<'a>, Refusal>
         ensures { Reads bytes.now result }
     {
-        let [a, b, c, d, ..] = bytes else {
-            return Err(Refusal::Profile);
-        };
-        let map = Map(u32::from_be_bytes([*a, *b, *c, *d]));
+        let first = bytes.first_chunk().ok_or(Refusal::Profile)?;
+        let map = Map(u32::from_be_bytes(*first));
         if map.is_allowed() && bytes.len() == map.place(24) {
             Ok(Profile { bytes, map })
         } else {
