@@ -11,6 +11,7 @@ pub use queue::Queue;
 
 impl<T> Queue<T> {
     // An empty queue. Whatever is called on it from then on, entries leave in the order in which they came.
+    #[tactic(auto, using(crate::proofs::Fifo::fifo))]
     pub fn new() -> Self
         ensures empty { result ≡ Queue.Empty }
         ensures order { FirstInFirstOut result }
