@@ -1,5 +1,5 @@
 // What a pipe remembers of the last payload taken on it: its packet identity and its check, as plain numbers.
-#[derive(Clone, Copy)]
+#[derive(Clone, Copy, PartialEq, Eq)]
 pub struct Memory {
     pub pid: u8,
     pub check: u16,
