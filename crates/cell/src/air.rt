@@ -6,13 +6,6 @@ pub struct Frame {
     pub bytes: [u8; 42],
 }
 
-// What is on the air between the units: at most one frame.
-#[derive(Clone, Copy)]
-pub enum Air {
-    Empty,
-    Holds(Frame),
-}
-
 // What becomes of the frame on the air when it is carried.
 #[derive(Clone, Copy)]
 pub enum Fate {
