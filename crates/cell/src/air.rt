@@ -1,4 +1,5 @@
-// A frame on the air: the unit that sent it, and its bits, which fill the bytes from the top.
+// A frame on the air: the unit that sent it, and how many bits of its bytes it has, from the top. Nothing here has a heap, so the
+// bytes are those of the longest frame.
 #[derive(Clone, Copy)]
 pub struct Frame {
     pub from: u8,

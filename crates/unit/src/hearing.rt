@@ -30,7 +30,7 @@ fn pipe_in_use(registers: &Registers, pipe: Pipe) -> Address
 fn is_on_pipe(registers: &Registers, address: &Address, pipe: Pipe) -> bool
     ensures { result ≡ on_pipe registers.now (address_bytes address.now) pipe }
 {
-    registers.is_enabled(pipe) && pipe_in_use(registers, pipe).same(address)
+    registers.is_enabled(pipe) && pipe_in_use(registers, pipe) == *address
 }
 
 // The pipe of a receiver with this address.
@@ -105,7 +105,7 @@ impl State {
         ensures { self.new ≡ (heard_by_sender self.old (packet_of fields.now)).state }
     {
         if fields.payload.bytes().is_empty()
-            && pipe_in_use(&self.registers, Pipe::P0).same(&fields.address)
+            && pipe_in_use(&self.registers, Pipe::P0) == fields.address
         {
             let _ = self.tx.pop();
             let left = !self.tx.is_empty();
