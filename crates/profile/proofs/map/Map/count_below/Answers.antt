@@ -2,11 +2,11 @@ use Rattle.std.proofs.Common.{◌%◌, ◌^◌, ◌<◌, ◌≤◌, sym, arith, 
 use lib.Count.{ones, ones-le}
 use Rattle.std.proofs.lemmas.Nat.{one_shl, and_mask, mod_below}
 use Rattle.profile.proofs.Ones.{count}
-use Rattle.profile.proofs.map.count_below.Goals as goal
+use Rattle.profile.proofs.map.Map.count_below.Goals as goal
 
 pub returns : goal.returns
 returns c =
-    let m = c.args.map in
+    let m = c.args.self.0 in
     let r = c.args.address in
     let small : r < 32 = omega arith in
     let n : ones (m % 2 ^ r) ≤ r = ones-le r (m % 2 ^ r) (mod_below m (2 ^ r) (pow_pos r)) in
