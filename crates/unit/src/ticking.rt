@@ -55,7 +55,8 @@ pub(crate) fn put_frame<C: Check>(fields: Option<Fields>, buffer: &mut [u8]) -> 
 }
 
 impl<C: Check> Boxed<C> {
-    // One tick of 10 µs. The answer is the bit count of the frame that is sent, 0 for none; it stands in the buffer.
+    // One tick of 10 µs. The answer is the bit count of the frame that is sent, 0 for none, as the radio's calls have it
+    // (docs/MODES.md); it stands in the buffer.
     pub fn tick(&mut self, buffer: &mut [u8]) -> Result<usize, Refusal>
         ensures answer { result ≡ tick_answer C.Check.width C.meaning self.old.state (length buffer.old) }
         ensures state { self.new.state ≡ tick_after self.old.state (length buffer.old) }
