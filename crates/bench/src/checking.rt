@@ -25,12 +25,7 @@ fn en_aa_fault(file: &Registers) -> bool
     ensures { result ≡ en_aa_fault file.now }
 {
     if file.is_receiver() {
-        is_unanswered(file, Pipe::P0)
-            || is_unanswered(file, Pipe::P1)
-            || is_unanswered(file, Pipe::P2)
-            || is_unanswered(file, Pipe::P3)
-            || is_unanswered(file, Pipe::P4)
-            || is_unanswered(file, Pipe::P5)
+        Pipe::all().iter().any(|pipe| is_unanswered(file, *pipe))
     } else {
         is_unanswered(file, Pipe::P0)
     }
@@ -40,12 +35,7 @@ fn en_rxaddr_fault(file: &Registers) -> bool
     ensures { result ≡ en_rxaddr_fault file.now }
 {
     if file.is_receiver() {
-        !(file.is_enabled(Pipe::P0)
-            || file.is_enabled(Pipe::P1)
-            || file.is_enabled(Pipe::P2)
-            || file.is_enabled(Pipe::P3)
-            || file.is_enabled(Pipe::P4)
-            || file.is_enabled(Pipe::P5))
+        !Pipe::all().iter().any(|pipe| file.is_enabled(*pipe))
     } else {
         !file.is_enabled(Pipe::P0)
     }
@@ -75,29 +65,9 @@ fn has_address_of(file: &Registers, pipe: Pipe, low: Pipe) -> bool
 fn is_taken(file: &Registers, pipe: Pipe) -> bool
     ensures { result ≡ some_pipe (lower pipe) (same_address file.now pipe) }
 {
-    match pipe {
-        Pipe::P0 => false,
-        Pipe::P1 => has_address_of(file, pipe, Pipe::P0),
-        Pipe::P2 => has_address_of(file, pipe, Pipe::P0) || has_address_of(file, pipe, Pipe::P1),
-        Pipe::P3 => {
-            has_address_of(file, pipe, Pipe::P0)
-                || has_address_of(file, pipe, Pipe::P1)
-                || has_address_of(file, pipe, Pipe::P2)
-        }
-        Pipe::P4 => {
-            has_address_of(file, pipe, Pipe::P0)
-                || has_address_of(file, pipe, Pipe::P1)
-                || has_address_of(file, pipe, Pipe::P2)
-                || has_address_of(file, pipe, Pipe::P3)
-        }
-        Pipe::P5 => {
-            has_address_of(file, pipe, Pipe::P0)
-                || has_address_of(file, pipe, Pipe::P1)
-                || has_address_of(file, pipe, Pipe::P2)
-                || has_address_of(file, pipe, Pipe::P3)
-                || has_address_of(file, pipe, Pipe::P4)
-        }
-    }
+    Pipe::all()[..usize::from(pipe.index())]
+        .iter()
+        .any(|low| has_address_of(file, pipe, *low))
 }
 
 fn address_fault(file: &Registers, pipe: Pipe) -> bool
@@ -131,19 +101,11 @@ fn is_faulty(file: &Registers, register: Register, width: usize) -> bool
         Register::Config => config_fault(file, width),
         Register::EnAa => en_aa_fault(file),
         Register::EnRxaddr => en_rxaddr_fault(file),
-        Register::RxAddrP1 => address_fault(file, Pipe::P1),
-        Register::RxAddrP2 => address_fault(file, Pipe::P2),
-        Register::RxAddrP3 => address_fault(file, Pipe::P3),
-        Register::RxAddrP4 => address_fault(file, Pipe::P4),
-        Register::RxAddrP5 => address_fault(file, Pipe::P5),
         Register::TxAddr => tx_addr_fault(file),
-        Register::RxPwP0 => width_fault(file, Pipe::P0),
-        Register::RxPwP1 => width_fault(file, Pipe::P1),
-        Register::RxPwP2 => width_fault(file, Pipe::P2),
-        Register::RxPwP3 => width_fault(file, Pipe::P3),
-        Register::RxPwP4 => width_fault(file, Pipe::P4),
-        Register::RxPwP5 => width_fault(file, Pipe::P5),
-        _ => false,
+        _ => Pipe::all().iter().any(|pipe| {
+            register == pipe.address_register() && address_fault(file, *pipe)
+                || register == pipe.width_register() && width_fault(file, *pipe)
+        }),
     }
 }
 
@@ -151,14 +113,10 @@ fn is_faulty(file: &Registers, register: Register, width: usize) -> bool
 fn lowest_fault(file: &Registers, width: usize) -> Option<Register>
     ensures { result ≡ fault_of width file.now }
 {
-    for address in 0..24 {
-        if let Some(register) = Register::at(address) {
-            if is_faulty(file, register, width) {
-                return Some(register);
-            }
-        }
-    }
-    None
+    Register::all()
+        .iter()
+        .find(|register| is_faulty(file, **register, width))
+        .copied()
 }
 
 impl Bench {
@@ -174,9 +132,7 @@ impl Bench {
     pub fn check<C: Check>(&self) -> Result<(), Refusal>
         ensures { result ≡ check_answer (fault_of C.Check.width self.now.registers) }
     {
-        match self.fault::<C>() {
-            Some(register) => Err(Refusal::Fault(register)),
-            None => Ok(()),
-        }
+        self.fault::<C>()
+            .map_or(Ok(()), |register| Err(Refusal::Fault(register)))
     }
 }

@@ -14,7 +14,7 @@ use registers::{Register, Registers};
 fn store(registers: &mut Registers, register: Register, value: &[u8])
     ensures { registers.new ≡ stored registers.old (write_register register value.now) }
 {
-    if register.address() != 0x07 {
+    if register != Register::Status {
         registers.write(register, value);
     }
 }
