@@ -51,7 +51,8 @@ pub(crate) fn put_frame<C: Check>(fields: Option<Fields>, buffer: &mut [u8]) -> 
     let Some(fields) = fields else {
         return 0;
     };
-    frames::pack::<C>(&fields, buffer).unwrap_or(0)
+    // a buffer with room is not refused
+    frames::pack::<C>(&fields, buffer).unwrap()
 }
 
 impl<C: Check> Boxed<C> {
