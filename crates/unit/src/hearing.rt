@@ -79,9 +79,7 @@ impl State {
         self.memories.remember(pipe, memory);
         acknowledge(&heard.fields)
     }
-}
 
-impl State {
     fn hear_as_receiver(&mut self, heard: &Heard) -> Option<Fields>
         ensures after { self.new ≡ (heard_by_receiver self.old (packet_of heard.now.fields) heard.now.check).state }
         ensures answer { option_map packet_of result ≡ (heard_by_receiver self.old (packet_of heard.now.fields) heard.now.check).answer }
