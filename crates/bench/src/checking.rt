@@ -1,5 +1,5 @@
 // The check before boxing.
-ghost use Rattle.std.specs.Prelude.{◌≡◌, ◌≤◌, take};
+ghost use Rattle.std.specs.Prelude.{◌≡◌, ◌≤◌, length, take};
 ghost use Rattle.std.specs.Str.{bytes_eq};
 ghost use Rattle.bench.specs.Checking.{config_fault, unanswered, en_aa_fault, en_rxaddr_fault, same_address, some_pipe, lower, address_fault, tx_addr_fault, width_fault, faulty, fault_of, check_answer, LowestFault};
 
@@ -42,11 +42,12 @@ fn en_rxaddr_fault(file: &Registers) -> bool
 }
 
 // Whether two addresses are alike in their low bytes.
-fn is_alike(a: &[u8; 5], b: &[u8; 5], width: usize) -> bool
-    requires { width ≤ 5 }
+fn is_alike(a: &[u8], b: &[u8], width: usize) -> bool
+    requires first { width ≤ length a.now }
+    requires second { width ≤ length b.now }
     ensures { result ≡ bytes_eq (take width a.now) (take width b.now) }
 {
-    a[0..width] == b[0..width]
+    a[..width] == b[..width]
 }
 
 // Whether the lower pipe is enabled and has the address in use of the other.
@@ -85,12 +86,12 @@ fn width_fault(file: &Registers, pipe: Pipe) -> bool
 fn tx_addr_fault(file: &Registers) -> bool
     ensures { result ≡ tx_addr_fault file.now }
 {
-    if file.is_receiver() {
-        return false;
-    }
-    let mut tx = [0; 5];
-    tx.copy_from_slice(file.value(Register::TxAddr));
-    !is_alike(&tx, &file.pipe_address(Pipe::P0), file.address_width())
+    !file.is_receiver()
+        && !is_alike(
+            file.value(Register::TxAddr),
+            &file.pipe_address(Pipe::P0),
+            file.address_width(),
+        )
 }
 
 // Whether the register has a fault, for a check of that width.
