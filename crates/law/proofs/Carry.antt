@@ -1,6 +1,7 @@
 -- Every carry keeps the invariant.
 use Rattle.std.proofs.Common.{◌≡◌, ℕ, zero, suc, ◌+◌, ◌-◌, ◌^◌, ◌<◌, ◌≤◌, Bool, true, false, cond, ◌&&◌, eqb, ltb, leb, ◌⊎◌, List, [], ◌∷◌, length, get_or, Some, None, Ok, Err, Option, sym, refl, ap, ◌∙◌, subst, inl, inr, ⊎_elim, arith, length-drop, le-ltb, lt-ltb, eq-eqb, ne_eqb, leb-true}
-use Rattle.std.proofs.lemmas.Bool.{and_parts, cond-true, cond-false, cond_both}
+use Rattle.queue.proofs.Kept.{popped_rest}
+use Rattle.std.proofs.lemmas.Bool.{and_parts, cond-true, cond-false, cond_both, cases_eq}
 use Rattle.std.proofs.lemmas.Slice.Eq.{bytes_eq-Decides}
 use Rattle.std.specs.Str.{bytes_eq}
 use Rattle.std.specs.Option.{option_map}
@@ -22,8 +23,6 @@ use Rattle.unit.specs.Units.{tx_address}
 use Rattle.unit.specs.Ticking.{bits_of}
 use Rattle.unit.specs.Hearing.{pipe_of, Outcome, dropped, is_acknowledgement, heard_by_sender, delivered, hears, address_width}
 use Rattle.cell.specs.declared.air.Frame.{Frame}
-use Rattle.cell.specs.declared.air.Air.{Air}
-use Rattle.cell.specs.declared.air.Air.TheVariants.{Empty, Holds}
 use Rattle.cell.specs.declared.air.Fate.{Fate}
 use Rattle.cell.specs.declared.parts.Inside.{Inside}
 use Rattle.cell.specs.declared.refusal.Cause.TheVariants.{FateNotAllowed}
@@ -36,10 +35,10 @@ use Rattle.law.specs.Runs.{carry, answer_of, outcome}
 use Rattle.law.specs.Law.{Payload, History, at, oldest, rx_length, tx_length, spoils, ready, ready_by, pipe_of_sender, touched, touching, taking, answering, shrank, note_counting, note_frame, note_aired, note_fate, note}
 use Rattle.law.specs.Law.{Mistaken, OfBytesInside}
 use Rattle.law.proofs.Terms.{Fits, Like, hears_packet, each_hears, answer_to, hearing}
-use Rattle.law.proofs.Facts.{same_or_not, at_there, at_elsewhere, nth_all}
+use Rattle.law.proofs.Facts.{at_there, at_elsewhere, nth_all}
 use Rattle.law.proofs.Inv.{Sendable, SenderOk, last_number, Pending, Settled, acknowledging, packet_with, OnAir, AirOk, Inv}
 use Rattle.law.proofs.Changes.{now_there, now_elsewhere}
-use Rattle.law.proofs.Tails.{popped_rest, tail_length, waiting_tries}
+use Rattle.law.proofs.Tails.{tail_length, waiting_tries}
 use Rattle.law.proofs.Carries.{carries}
 use Rattle.law.proofs.Carrying.{by_places, none_counted, same_shrank, none_taken, quiet_carry}
 use Rattle.law.proofs.Answering.{pipe_stays, pipe_is}
@@ -128,7 +127,7 @@ module _ (w : ℕ) (f : List Bool → ℕ) where
 
   -- a place at which what hears stays as it is
   place_same : (d : Inside) (from : ℕ) (p : Packet) (j : ℕ) → ((j ≡ from → ⊥) → (s : State) → unit_at d j ≡ Some s → hears_packet w f p s ≡ s) → unit_at (hearing w f d from p) j ≡ unit_at d j
-  place_same d from p j same = heard_at d from p j ∙ by (same_or_not j from) where
+  place_same d from p j same = heard_at d from p j ∙ by (cases_eq j from) where
     there : (m : Option State) → ((s : State) → m ≡ Some s → hears_packet w f p s ≡ s) → option_map (hears_packet w f p) m ≡ m
     there None g = refl
     there (Some s) g = ap Some (g s refl)
@@ -143,7 +142,7 @@ module _ (w : ℕ) (f : List Bool → ℕ) where
   -- ---- a payload's frame
 
   module _ (below : (s : List Bool) → f s < 2 ^ w) (shows : PatternShows w f) (c d : Inside) (h : History) (fits : Fits w c) (typed : OfBytesInside c) (i : Inv w f c d h) (fate : Fate)
-      (k n : ℕ) (x : Frame) (o : OnAir w f c d h x k n) (air : d.air ≡ Holds x) (aired : h.aired ≡ Some (record { sender = k; number = n })) where
+      (k n : ℕ) (x : Frame) (o : OnAir w f c d h x k n) (air : d.air ≡ Some x) (aired : h.aired ≡ Some (record { sender = k; number = n })) where
     abbrev its_packet : Packet
     its_packet = packet_with o.unit n o.bytes
 
@@ -151,7 +150,7 @@ module _ (w : ℕ) (f : List Bool → ℕ) where
     its_payload = record { sender = k; number = n }
 
     only_its : (v : ℕ) → Pending d.air h.aired v → v ≡ k
-    only_its v p = sym (subst (λ m. Pending (Holds x) m v) aired (subst (λ b. Pending b h.aired v) air p))
+    only_its v p = sym (subst (λ m. Pending (Some x) m v) aired (subst (λ b. Pending b h.aired v) air p))
 
     -- the sender as it is now
     sender_now : (s : State) × (unit_at d k ≡ Some s) × Known o.unit s
@@ -173,16 +172,16 @@ module _ (w : ℕ) (f : List Bool → ℕ) where
     zero_is_not e = absurd (omega (arith, e, o.sender))
 
     -- nobody heard it
-    unheard : (spoils fate ≡ true) → (free : Bool) → Inv w f c (with_air d Empty) (touching k (spoils fate) free h)
+    unheard : (spoils fate ≡ true) → (free : Bool) → Inv w f c (with_air d None) (touching k (spoils fate) free h)
     unheard bad free = quiet_carry w f c d h k (spoils fate) free only_its i (λ s there wait. inl bad)
 
-    none_shrank : (j : ℕ) → shrank d (with_air d Empty) j ≡ false
-    none_shrank j = same_shrank d (with_air d Empty) j refl
+    none_shrank : (j : ℕ) → shrank d (with_air d None) j ≡ false
+    none_shrank j = same_shrank d (with_air d None) j refl
 
-    payload_lost : (spoils fate ≡ true) → Inv w f c (with_air d Empty) (note_frame false fate d (with_air d Empty) its_payload (note_counting d (with_air d Empty) h))
+    payload_lost : (spoils fate ≡ true) → Inv w f c (with_air d None) (note_frame false fate d (with_air d None) its_payload (note_counting d (with_air d None) h))
     payload_lost bad =
-        subst (λ g. Inv w f c (with_air d Empty) (note_frame false fate d (with_air d Empty) its_payload g)) (sym (none_counted d (with_air d Empty) h none_shrank))
-        (subst (λ g. Inv w f c (with_air d Empty) g)
+        subst (λ g. Inv w f c (with_air d None) (note_frame false fate d (with_air d None) its_payload g)) (sym (none_counted d (with_air d None) h none_shrank))
+        (subst (λ g. Inv w f c (with_air d None) g)
         (sym (none_taken (rx_length (unit_at d 0) - rx_length (unit_at d 0)) its_payload (touching k (spoils fate) (ready d h.writes its_payload) h) (omega arith)))
         (unheard bad (ready d h.writes its_payload)))
 
@@ -261,9 +260,9 @@ module _ (w : ℕ) (f : List Bool → ℕ) where
     abbrev its_answer : Packet
     its_answer = acknowledging its_packet
 
-    answer_lost : (spoils fate ≡ true) → Inv w f c (with_air d Empty) (note_frame true fate d (with_air d Empty) its_payload (note_counting d (with_air d Empty) h))
+    answer_lost : (spoils fate ≡ true) → Inv w f c (with_air d None) (note_frame true fate d (with_air d None) its_payload (note_counting d (with_air d None) h))
     answer_lost bad =
-        subst (λ g. Inv w f c (with_air d Empty) (touching k (spoils fate) true g)) (sym (none_counted d (with_air d Empty) h none_shrank)) (unheard bad true)
+        subst (λ g. Inv w f c (with_air d None) (touching k (spoils fate) true g)) (sym (none_counted d (with_air d None) h none_shrank)) (unheard bad true)
 
     abbrev t_answered : Inside
     t_answered = hearing w f d 0 its_answer
@@ -298,7 +297,7 @@ module _ (w : ℕ) (f : List Bool → ℕ) where
     rest_stays (suc j) other =
         place_same d 0 its_answer (suc j) (λ z s there. deaf s its_answer (f (covered its_answer)) (sends_only (suc j) s (omega arith) there) (not_theirs (suc j) s (omega arith) other there))
 
-    air_silent : t_answered.air ≡ Empty
+    air_silent : t_answered.air ≡ None
     air_silent = ap (λ m. air_of 0 (answer_to w f m 0 its_answer)) receiver_now.1
 
     module _ (s : State) (e : unit_at d k ≡ Some s) (known : Known o.unit s)
@@ -313,7 +312,7 @@ module _ (w : ℕ) (f : List Bool → ℕ) where
       not_awaited : is_waiting s.core.mode ≡ false → Inv w f c t_answered (note_frame true fate d t_answered its_payload (note_counting d t_answered h))
       not_awaited idle_now =
           subst (λ g. Inv w f c t_answered (touching k (spoils fate) true g)) (sym (none_counted d t_answered h (λ j. same_shrank d t_answered j (all_stay j))))
-          (by_places w f c (with_air d Empty) t_answered _ (λ j. sym (all_stay j)) (sym air_silent)
+          (by_places w f c (with_air d None) t_answered _ (λ j. sym (all_stay j)) (sym air_silent)
           (quiet_carry w f c d h k (spoils fate) true only_its i (λ z there wait.
           let same : s ≡ z = cc (e, there) in
           let bad : ◌≡◌ {A = Bool} true false = sym wait ∙ ap (λ (v : State). is_waiting v.core.mode) (sym same) ∙ idle_now in
@@ -321,11 +320,11 @@ module _ (w : ℕ) (f : List Bool → ℕ) where
             all_stay : (j : ℕ) → unit_at t_answered j ≡ unit_at d j
             all_stay j = ⊎_elim
                 (λ same. ap (unit_at t_answered) same ∙ sender_at ∙ ap Some (idle s its_answer (f (covered its_answer)) role_s idle_now) ∙ sym e ∙ ap (unit_at d) (sym same))
-                (λ other. rest_stays j other) (same_or_not j k)
+                (λ other. rest_stays j other) (cases_eq j k)
 
       awaited : is_waiting s.core.mode ≡ true → Inv w f c t_answered (note_frame true fate d t_answered its_payload (note_counting d t_answered h))
       awaited waits =
-          by_places w f c (with_air (with_unit d k (delivered s)) Empty) t_answered _ places (sym air_silent)
+          by_places w f c (with_air (with_unit d k (delivered s)) None) t_answered _ places (sym air_silent)
           (delivers w f c d h k n s (λ j. cond (shrank d t_answered j) (suc (h.writes.gone j)) (h.writes.gone j))
           (λ j. cond (shrank d t_answered j) (record { payload = oldest h.writes j; taken = h.receipts.taken; answered = h.receipts.answered } ∷ h.counted j) (h.counted j))
           (at k (touched (spoils fate) true (cond (shrank d t_answered k) [] (h.trials.exchanges k))) (λ j. cond (shrank d t_answered j) [] (h.trials.exchanges j)))
@@ -364,7 +363,7 @@ module _ (w : ℕ) (f : List Bool → ℕ) where
 
             places : (j : ℕ) → unit_at (with_unit d k (delivered s)) j ≡ unit_at t_answered j
             places j = ⊎_elim (λ same. ap (unit_at (with_unit d k (delivered s))) same ∙ now_there d k s (delivered s) e ∙ sym (ap (unit_at t_answered) same ∙ sender_at ∙ ap Some accepted))
-                (λ other. now_elsewhere d k j (delivered s) other ∙ sym (rest_stays j other)) (same_or_not j k)
+                (λ other. now_elsewhere d k j (delivered s) other ∙ sym (rest_stays j other)) (cases_eq j k)
 
       answer_heard_by : (b : Bool) → is_waiting s.core.mode ≡ b → Inv w f c t_answered (note_frame true fate d t_answered its_payload (note_counting d t_answered h))
       answer_heard_by true waits = awaited waits
@@ -380,7 +379,7 @@ module _ (w : ℕ) (f : List Bool → ℕ) where
         subst (λ z. Inv w f c (carried_so w f fate d z) (note_frame (eqb z.from 0) fate d (carried_so w f fate d z) its_payload (note_counting d (carried_so w f fate d z) h))) (sym is)
         (⊎_elim
         (λ lost. subst P (sym lost.1)
-        (subst (λ b. Inv w f c (with_air d Empty) (note_frame b fate d (with_air d Empty) its_payload (note_counting d (with_air d Empty) h))) (sym (ne_eqb k 0 zero_is_not)) (payload_lost lost.0)))
+        (subst (λ b. Inv w f c (with_air d None) (note_frame b fate d (with_air d None) its_payload (note_counting d (with_air d None) h))) (sym (ne_eqb k 0 zero_is_not)) (payload_lost lost.0)))
         (λ heard. subst P (sym heard)
         (subst (λ b. Inv w f c t_heard (note_frame b fate d t_heard its_payload (note_counting d t_heard h))) (sym (ne_eqb k 0 zero_is_not)) (payload_heard settled)))
         (carries w f below shows c d fits i.like k its_packet (valid_packet w c fits typed k n o.unit o.bytes o.there sendable_it.few sendable_it.bytes) fate
@@ -407,7 +406,7 @@ module _ (w : ℕ) (f : List Bool → ℕ) where
       → (number start pattern : ℕ)
       → Inv w f c (carried w f d number start pattern) (note h d (carry number start pattern) (outcome w f d (carry number start pattern)) (carried w f d number start pattern))
   carry_keeps below shows c d h fits typed i number start pattern = by_air d.air refl where
-    by_fate : (x : Frame) → d.air ≡ Holds x → (o : Option Fate) → fate_of number start pattern ≡ o → (b : Bool) → fate_allowed w x.count o ≡ b
+    by_fate : (x : Frame) → d.air ≡ Some x → (o : Option Fate) → fate_of number start pattern ≡ o → (b : Bool) → fate_allowed w x.count o ≡ b
         → Inv w f c (carried_if w f b o d x)
         (note h d (carry number start pattern) (answer_of (cond b (Ok tt) (Err (refusal_of 0 FateNotAllowed)))) (carried_if w f b o d x))
     by_fate x air o is false allowed = i
@@ -418,7 +417,7 @@ module _ (w : ℕ) (f : List Bool → ℕ) where
         (subst (λ a. Inv w f c (carried_so w f fate d x) (note_fate (Some fate) a d (carried_so w f fate d x) h)) (sym air)
         (frame_carried below shows c d h fits typed i fate on.0 on.1 x on.3 air on.2 allowed))
 
-    by_air : (a : Air) → d.air ≡ a → Inv w f c (carried_by w f a d number start pattern)
+    by_air : (a : Option Frame) → d.air ≡ a → Inv w f c (carried_by w f a d number start pattern)
         (note h d (carry number start pattern) (answer_of (carry_result_by w f a number start pattern)) (carried_by w f a d number start pattern))
-    by_air Empty air = i
-    by_air (Holds x) air = by_fate x air (fate_of number start pattern) refl (fate_allowed w x.count (fate_of number start pattern)) refl
+    by_air None air = i
+    by_air (Some x) air = by_fate x air (fate_of number start pattern) refl (fate_allowed w x.count (fate_of number start pattern)) refl

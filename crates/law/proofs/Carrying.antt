@@ -1,19 +1,20 @@
 -- A carry after which the air is empty and no unit changed; and what every carry needs.
-use Rattle.std.proofs.Common.{◌≡◌, ℕ, suc, ◌≤◌, Bool, true, false, cond, ◌&&◌, ◌||◌, ltb, ◌⊎◌, List, [], ◌∷◌, length, drop, Some, Option, sym, refl, ap, ◌∙◌, subst, inl, inr, ⊎_elim, append-nil, arith, le-ltb}
+use Rattle.std.proofs.Common.{◌≡◌, ℕ, suc, ◌≤◌, Bool, true, false, cond, ◌&&◌, ◌||◌, ltb, ◌⊎◌, List, [], ◌∷◌, length, drop, Some, Option, sym, refl, ap, ◌∙◌, subst, inl, inr, ⊎_elim, append-nil, arith, le-ltb, None}
+use Rattle.std.proofs.Math.Bool.{or-true, and-false}
+use Rattle.std.proofs.lemmas.Bool.{cases_eq}
 use Rattle.std.proofs.Math.Path.{fun_ext}
 use Rattle.modes.specs.declared.parts.Mode.{Mode}
 use Rattle.modes.specs.declared.parts.Mode.TheVariants.{Shutdown, Starting, Standby, IdleTx, Tuning, Rx, Waiting}
 use Rattle.modes.specs.Modes.{is_waiting}
 use Rattle.unit.specs.declared.state.State.{State}
 use Rattle.unit.specs.Units.{retry_of}
-use Rattle.cell.specs.declared.air.Air.{Air}
-use Rattle.cell.specs.declared.air.Air.TheVariants.{Empty, Holds}
+use Rattle.cell.specs.declared.air.Frame.{Frame}
 use Rattle.cell.specs.declared.parts.Inside.{Inside}
 use Rattle.cell.specs.Calls.{unit_at, with_air}
 use Rattle.law.specs.Lists.{All}
 use Rattle.law.specs.Law.{Payload, Exchange, Counting, History, at, oldest, tx_length, touched, touching, taking, shrank, note_counting, with_receipts}
 use Rattle.law.proofs.Terms.{Like}
-use Rattle.law.proofs.Facts.{at_there, at_elsewhere, same_or_not}
+use Rattle.law.proofs.Facts.{at_there, at_elsewhere}
 use Rattle.law.proofs.Inv.{Failed, TriesOk, Pending, AirOk, Inv}
 use Rattle.law.proofs.Ticks.{repend}
 
@@ -33,9 +34,9 @@ module _ (w : ℕ) (f : List Bool → ℕ) where
     air = subst (λ a. AirOk w f c e h a) air (moved d.air i.air);
     law = i.law;
   } where
-    moved : (a : Air) → AirOk w f c d h a → AirOk w f c e h a
-    moved Empty o = tt
-    moved (Holds x) o = (
+    moved : (a : Option Frame) → AirOk w f c d h a → AirOk w f c e h a
+    moved None o = tt
+    moved (Some x) o = (
       o.0,
       o.1,
       o.2,
@@ -89,14 +90,6 @@ none_taken n p h e =
 
 -- ---- the newest exchange
 
-pub or_true : (b : Bool) → b || true ≡ true
-or_true true = refl
-or_true false = refl
-
-pub and_false : (b : Bool) → b && false ≡ false
-and_false true = refl
-and_false false = refl
-
 length_touched : (bad free : Bool) (xs : List Exchange) → length (touched bad free xs) ≡ length xs
 length_touched bad free [] = refl
 length_touched bad free (x ∷ xs) = refl
@@ -108,7 +101,7 @@ rest_touched bad free (x ∷ xs) = refl
 failed_touched : (bad free : Bool) (xs : List Exchange) → (bad ≡ true) ⊎ (free ≡ false) → All Failed (drop 1 xs) → All Failed (touched bad free xs)
 failed_touched bad free [] why a = tt
 failed_touched bad free (x ∷ xs) why a =
-    (⊎_elim (λ e. inl (ap (λ b. x.spoiled || b) e ∙ or_true x.spoiled)) (λ e. inr (ap (λ b. x.ready && b) e ∙ and_false x.ready)) why, a)
+    (⊎_elim (λ e. inl (ap (λ b. x.spoiled || b) e ∙ or-true x.spoiled)) (λ e. inr (ap (λ b. x.ready && b) e ∙ and-false x.ready)) why, a)
 
 -- it failed, or what is pending goes on
 pub touched_tries : (m : Mode) (again arc : ℕ) (bad free : Bool) (xs : List Exchange) (P Q : Type 0) → (is_waiting m ≡ true → Q ⊎ ((bad ≡ true) ⊎ (free ≡ false)))
@@ -128,7 +121,7 @@ touched_tries (Waiting left) again arc bad free xs P Q why t = record {
 
 module _ (w : ℕ) (f : List Bool → ℕ) where
   -- the exchanges of every sender after the carry of a frame of sender k, or of its answer
-  pub tries_carried : (c d : Inside) (h : History) (k : ℕ) (bad free : Bool) (a : Air) (o : Option Payload)
+  pub tries_carried : (c d : Inside) (h : History) (k : ℕ) (bad free : Bool) (a : Option Frame) (o : Option Payload)
       → ((v : ℕ) → Pending d.air h.aired v → v ≡ k) → Inv w f c d h
       → ((s : State) → unit_at d k ≡ Some s → is_waiting s.core.mode ≡ true → Pending a o k ⊎ ((bad ≡ true) ⊎ (free ≡ false)))
       → (v : ℕ) (s : State) → 1 ≤ v → unit_at d v ≡ Some s
@@ -144,17 +137,17 @@ module _ (w : ℕ) (f : List Bool → ℕ) where
       (λ other.
       subst (λ l. TriesOk s.core.mode s.core.counts.again (retry_of s.registers).count l (Pending a o v)) (sym (at_elsewhere k v (touched bad free (h.trials.exchanges k)) h.trials.exchanges other))
       (repend s.core.mode s.core.counts.again (retry_of s.registers).count (h.trials.exchanges v) (Pending d.air h.aired v) (Pending a o v)
-      (λ p. absurd (other (only v p))) (i.tries v s one there))) (same_or_not v k)
+      (λ p. absurd (other (only v p))) (i.tries v s one there))) (cases_eq v k)
 
   -- nobody heard anything, or nobody that heard it changed
   pub quiet_carry : (c d : Inside) (h : History) (k : ℕ) (bad free : Bool)
       → ((v : ℕ) → Pending d.air h.aired v → v ≡ k) → Inv w f c d h
       → ((s : State) → unit_at d k ≡ Some s → is_waiting s.core.mode ≡ true → (bad ≡ true) ⊎ (free ≡ false))
-      → Inv w f c (with_air d Empty) (touching k bad free h)
+      → Inv w f c (with_air d None) (touching k bad free h)
   quiet_carry c d h k bad free only i why = record {
     like = i.like;
     senders = i.senders;
-    tries = tries_carried c d h k bad free Empty h.aired only i (λ s there wait. inr (why s there wait));
+    tries = tries_carried c d h k bad free None h.aired only i (λ s there wait. inr (why s there wait));
     receiver = i.receiver;
     memories = i.memories;
     taken = i.taken;

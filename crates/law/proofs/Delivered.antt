@@ -1,6 +1,7 @@
 -- A sender accepts the acknowledgement of its oldest payload.
-use Rattle.std.proofs.Common.{◌≡◌, ℕ, suc, ◌<◌, ◌≤◌, Bool, true, false, cond, not, ◌&&◌, eqb, ◌⊎◌, List, [], ◌∷◌, length, drop, Some, None, sym, refl, ap, ◌∙◌, subst, inl, inr, ⊎_elim, arith, lt-ltb}
-use Rattle.std.proofs.lemmas.Bool.{and_parts, not-true, eqb-false}
+use Rattle.std.proofs.Common.{◌≡◌, ℕ, suc, ◌<◌, ◌≤◌, Bool, true, false, cond, not, ◌&&◌, eqb, ◌⊎◌, List, [], ◌∷◌, length, drop, Some, None, sym, refl, ap, ◌∙◌, subst, inl, inr, ⊎_elim, arith, lt-ltb, Option}
+use Rattle.queue.proofs.Kept.{popped_rest}
+use Rattle.std.proofs.lemmas.Bool.{and_parts, not-true, eqb-false, cases_eq}
 use Rattle.queue.specs.Entries.{entries, popped}
 use Rattle.modes.specs.declared.parts.Core.{Core}
 use Rattle.modes.specs.declared.parts.Mode.{Mode}
@@ -10,18 +11,16 @@ use Rattle.modes.specs.Modes.{is_waiting, resting, acknowledged}
 use Rattle.unit.specs.declared.state.State.{State}
 use Rattle.unit.specs.Units.{retry_of}
 use Rattle.unit.specs.Hearing.{delivered}
-use Rattle.cell.specs.declared.air.Air.{Air}
-use Rattle.cell.specs.declared.air.Air.TheVariants.{Empty, Holds}
+use Rattle.cell.specs.declared.air.Frame.{Frame}
 use Rattle.cell.specs.declared.parts.Inside.{Inside}
 use Rattle.cell.specs.Calls.{unit_at, with_unit, with_air}
 use Rattle.law.specs.Lists.{All, SomeOf, In}
 use Rattle.law.specs.Law.{Counting, Exchange, History, Writes, oldest}
 use Rattle.law.specs.Law.{Mistaken, Accounted}
-use Rattle.law.proofs.Facts.{same_or_not}
 use Rattle.law.proofs.Inv.{SenderOk, trying, TriesOk, Pending, numbered, AirOk, Inv}
 use Rattle.law.proofs.Grows.{Extends, mistaken_grows}
 use Rattle.law.proofs.Changes.{sender_changes, now_there}
-use Rattle.law.proofs.Tails.{popped_rest, tail_rest, tail_length, tries_none, waiting_tries}
+use Rattle.law.proofs.Tails.{tail_rest, tail_length, tries_none, waiting_tries}
 use Rattle.law.proofs.Senders.{resting_idle}
 use Rattle.law.proofs.Ticks.{repend}
 
@@ -52,7 +51,7 @@ module _ (w : ℕ) (f : List Bool → ℕ) where
   -- ---- the air falls silent
 
   silence : (c d : Inside) (h : History) → Inv w f c d h
-      → ((v : ℕ) (s : State) → 1 ≤ v → unit_at d v ≡ Some s → is_waiting s.core.mode ≡ true → Pending d.air h.aired v → ⊥) → Inv w f c (with_air d Empty) h
+      → ((v : ℕ) (s : State) → 1 ≤ v → unit_at d v ≡ Some s → is_waiting s.core.mode ≡ true → Pending d.air h.aired v → ⊥) → Inv w f c (with_air d None) h
   silence c d h i none = record {
     like = i.like;
     senders = i.senders;
@@ -93,16 +92,16 @@ module _ (w : ℕ) (f : List Bool → ℕ) where
       in_order = i.law.in_order;
       sent_means_taken = λ j. ⊎_elim
           (λ it. subst (λ v. All (Accounted f c h.writes) (counted v)) (sym it) (subst (λ l. All (Accounted f c h.writes) l) (sym here) (ok, i.law.sent_means_taken k)))
-          (λ other. subst (λ l. All (Accounted f c h.writes) l) (sym (elsewhere j other)) (i.law.sent_means_taken j)) (same_or_not j k);
+          (λ other. subst (λ l. All (Accounted f c h.writes) l) (sym (elsewhere j other)) (i.law.sent_means_taken j)) (cases_eq j k);
       no_giving_up_within_the_retry_budget = i.law.no_giving_up_within_the_retry_budget;
     };
   } where
     g : History
     g = record { writes = h.writes; aired = h.aired; receipts = h.receipts; counted = counted; trials = h.trials }
 
-    same : (a : Air) → AirOk w f c d h a → AirOk w f c d g a
-    same Empty o = tt
-    same (Holds x) o = (
+    same : (a : Option Frame) → AirOk w f c d h a → AirOk w f c d g a
+    same None o = tt
+    same (Some x) o = (
       o.0,
       o.1,
       o.2,
@@ -127,7 +126,7 @@ module _ (w : ℕ) (f : List Bool → ℕ) where
       → gone k ≡ suc (h.writes.gone k) → ((j : ℕ) → (j ≡ k → ⊥) → gone j ≡ h.writes.gone j)
       → counted k ≡ record { payload = oldest h.writes k; taken = h.receipts.taken; answered = h.receipts.answered } ∷ h.counted k → ((j : ℕ) → (j ≡ k → ⊥) → counted j ≡ h.counted j)
       → exchanges k ≡ [] → ((j : ℕ) → (j ≡ k → ⊥) → exchanges j ≡ h.trials.exchanges j)
-      → Inv w f c (with_air (with_unit d k (delivered s)) Empty)
+      → Inv w f c (with_air (with_unit d k (delivered s)) None)
       (record {
         writes = record { written = h.writes.written; gone = gone };
         aired = h.aired;
@@ -141,7 +140,7 @@ module _ (w : ℕ) (f : List Bool → ℕ) where
       let x : Writes = record { written = h.writes.written; gone = gone } in
       let grow : Extends h.writes x = record {
         more = λ j m b z. z;
-        later = λ j. ⊎_elim (λ it. subst (λ v. h.writes.gone v ≤ gone v) (sym it) (omega (arith, gone_here))) (λ other. omega (arith, gone_there j other)) (same_or_not j k);
+        later = λ j. ⊎_elim (λ it. subst (λ v. h.writes.gone v ≤ gone v) (sym it) (omega (arith, gone_here))) (λ other. omega (arith, gone_there j other)) (cases_eq j k);
       } in
       let left = not (eqb (length (entries (popped s.tx))) 0) in
       let rest : entries (popped s.tx) ≡ numbered (suc (h.writes.gone k)) (drop (suc (h.writes.gone k)) (h.writes.written k)) =

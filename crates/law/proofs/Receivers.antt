@@ -1,7 +1,8 @@
 -- Commands, CE and ticks at the receiver keep the invariant.
 use Rattle.std.proofs.Common.{◌≡◌, ℕ, ◌+◌, ◌*◌, ◌<◌, ◌≤◌, Bool, true, false, not, eqb, List, [], ◌∷◌, ◌++◌, length, take, drop, replicate, Some, None, Ok, Err, Option, Result, sym, refl, ap, ◌∙◌, subst, ap₂, ⊎_elim, arith}
+use Rattle.queue.proofs.Kept.{popped_rest}
 use Rattle.std.proofs.lemmas.List.{length-replicate, take_at}
-use Rattle.std.proofs.lemmas.Bool.{true≢false, eq-eqb, ne_eqb, cond-false, cond_both}
+use Rattle.std.proofs.lemmas.Bool.{true≢false, eq-eqb, ne_eqb, cond-false, cond_both, cases_eq}
 use Rattle.std.specs.Option.{option_map}
 use Rattle.queue.specs.declared.queue.Queue.TheVariants.{Empty as no_entries}
 use Rattle.queue.specs.Entries.{entries, first, popped}
@@ -22,8 +23,7 @@ use Rattle.unit.specs.Entries.{data_bytes}
 use Rattle.unit.specs.Units.{with_core, with_rx, retry_of, fault_refusal}
 use Rattle.unit.specs.Commanding.{receiver, tx_full, status, received_bytes, answered, refusals, order_refusal, refusal, done, done_by, answer_of}
 use Rattle.unit.specs.Ticking.{packet, oldest_packet, sent, bits_of, tick_refusal, tick_after}
-use Rattle.cell.specs.declared.air.Air.{Air}
-use Rattle.cell.specs.declared.air.Air.TheVariants.{Empty, Holds}
+use Rattle.cell.specs.declared.air.Frame.{Frame}
 use Rattle.cell.specs.declared.parts.Inside.{Inside}
 use Rattle.cell.specs.declared.refusal.Refusal.{Refusal}
 use Rattle.cell.specs.Refusals.{of_the_unit}
@@ -36,10 +36,9 @@ use Rattle.law.specs.Law.{Payload, Read, Writes, History, pipe_between, pipe_of_
 use Rattle.law.specs.Law.{one_if, ReadsAWrite, Later, InOrder, OverBudget}
 use Rattle.law.proofs.Terms.{Fits}
 use Rattle.law.proofs.Carries.{index_below}
-use Rattle.law.proofs.Facts.{same_or_not, at_elsewhere}
+use Rattle.law.proofs.Facts.{at_elsewhere}
 use Rattle.law.proofs.Inv.{TriesOk, Pending, EntryOk, EntriesOk, Before, ReadBefore, ReadByNow, TakenByNow, OrderOk, TakenOk, last_number, Inv}
 use Rattle.law.proofs.Changes.{receiver_changes, air_changes}
-use Rattle.law.proofs.Tails.{popped_rest}
 use Rattle.law.proofs.Senders.{first_none, sound_refusal, note_ce}
 use Rattle.law.proofs.Ticks.{data_back}
 
@@ -79,7 +78,7 @@ one_on_pipe w c fits j k n s t l m a b x y =
     let q : option_map index_of (pipe_for fits.receiver.registers t.registers) ≡ Some n =
     ap₂ (λ u v. option_map index_of (pipe_between u v)) (sym fits.there) (sym b) ∙ y in
     absurd (true≢false (sym (same_index _ _ n p q) ∙ fits.apart j k s t l m a b other)))
-    (same_or_not j k)
+    (cases_eq j k)
 
 -- what was taken is of a sender of the cell
 module _ (c : Inside) (x : Writes) where
@@ -88,7 +87,7 @@ module _ (c : Inside) (x : Writes) where
   taken_from k m [] h a = let z : ◌≡◌ {A = ℕ} 0 1 = cc in absurd (omega arith)
   taken_from k m (p ∷ ps) h a =
       ⊎_elim (λ e. subst (λ j. (1 ≤ j) × (s : State) × (unit_at c j ≡ Some s)) e (a.0.sender, a.0.unit, a.0.there))
-      (λ n. taken_from k m ps (sym (cond-false (eqb p.sender k) _ _ (ne_eqb p.sender k n)) ∙ h) a.1) (same_or_not p.sender k)
+      (λ n. taken_from k m ps (sym (cond-false (eqb p.sender k) _ _ (ne_eqb p.sender k n)) ∙ h) a.1) (cases_eq p.sender k)
 
 -- ---- the oldest unread payload is read
 
@@ -302,9 +301,9 @@ module _ (w : ℕ) (f : List Bool → ℕ) where
   giving_up_unseen c t h true true i = i
 
   -- with the air as it was, nothing was sent
-  nothing_sent : (a : Air) (k : ℕ) (h : History) → note_sending a a k h ≡ h
-  nothing_sent Empty k h = refl
-  nothing_sent (Holds x) k h = refl
+  nothing_sent : (a : Option Frame) (k : ℕ) (h : History) → note_sending a a k h ≡ h
+  nothing_sent None k h = refl
+  nothing_sent (Some x) k h = refl
 
   tick_noted : (c d t : Inside) (h : History) (o : Result Unit Refusal) → t.air ≡ d.air → Inv w f c t h → Inv w f c t (note h d (tick 0) (answer_outcome o) t)
   tick_noted c d t h (Err x) same i = i
@@ -321,9 +320,9 @@ module _ (w : ℕ) (f : List Bool → ℕ) where
         next : State
         next = tick_after s 42
 
-        by : (a : Air) → d.air ≡ a → Inv w f c (ticked_by w f (Some s) a d 0) (note h d (tick 0) (answer_outcome (tick_result_by w f (Some s) a 0)) (ticked_by w f (Some s) a d 0))
-        by (Holds x) is = i
-        by Empty is =
-            subst (λ a. Inv w f c (with_air (with_unit d 0 next) a) (note h d (tick 0) (answer_outcome (tick_result_by w f (Some s) Empty 0)) (with_air (with_unit d 0 next) a)))
+        by : (a : Option Frame) → d.air ≡ a → Inv w f c (ticked_by w f (Some s) a d 0) (note h d (tick 0) (answer_outcome (tick_result_by w f (Some s) a 0)) (ticked_by w f (Some s) a d 0))
+        by (Some x) is = i
+        by None is =
+            subst (λ a. Inv w f c (with_air (with_unit d 0 next) a) (note h d (tick 0) (answer_outcome (tick_result_by w f (Some s) None 0)) (with_air (with_unit d 0 next) a)))
             (is ∙ sym (ap (air_of 0) (no_bits s (i.receiver s e).0 (tick_refusal s 42))))
-            (tick_noted c d (with_unit d 0 next) h (tick_result_by w f (Some s) Empty 0) refl (core_or_not c d h s e i sound six (tick_refusal s 42) _))
+            (tick_noted c d (with_unit d 0 next) h (tick_result_by w f (Some s) None 0) refl (core_or_not c d h s e i sound six (tick_refusal s 42) _))

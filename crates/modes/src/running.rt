@@ -1,5 +1,5 @@
 ghost use Rattle.std.specs.Prelude.{◌≡◌};
-ghost use Rattle.modes.specs.Modes.{resting, wait_ticks, begun, given_up, ticked, sends, leveled, acknowledged, flushed, reconfigured, is_waiting, is_rx, busy};
+ghost use Rattle.modes.specs.Modes.{at_rest, wait_ticks, begun, given_up, ticked, sends, leveled, acknowledged, flushed, reconfigured, is_waiting, is_rx, busy};
 
 use crate::parts::{Core, Mode, Retry, Role};
 use registers::stands;
@@ -10,23 +10,21 @@ const START_TICKS: u16 = 200;
 // Until a receiver listens, or a sender sends.
 const TUNING_TICKS: u16 = 13;
 
-// Where a powered unit with nothing under way is.
-fn resting(role: Role, ce: bool) -> Mode
-    ensures { result ≡ resting role ce }
-{
-    match (role, ce) {
-        (_, false) => Mode::Standby,
-        (Role::Sender, true) => Mode::IdleTx,
-        (Role::Receiver, true) => Mode::Tuning { left: TUNING_TICKS },
-    }
-}
-
 impl Retry {
     // How long an acknowledgement is waited for.
     pub fn wait_ticks(self) -> u16
         ensures { result ≡ wait_ticks self }
     {
-        25 * (self.delay as u16 + 1)
+        25 * (u16::from(self.delay) + 1)
+    }
+
+    // A frame was sent, and its acknowledgement is waited for.
+    fn waiting(self) -> Mode
+        ensures { result ≡ Mode.Waiting (wait_ticks self) }
+    {
+        Mode::Waiting {
+            left: self.wait_ticks(),
+        }
     }
 }
 
@@ -35,34 +33,36 @@ impl Mode {
     pub fn is_waiting(self) -> bool
         ensures { result ≡ is_waiting self }
     {
-        match self {
-            Mode::Waiting { .. } => true,
-            _ => false,
-        }
+        matches!(self, Mode::Waiting { .. })
     }
 
     // Whether a receiver listens.
     pub fn is_rx(self) -> bool
         ensures { result ≡ is_rx self }
     {
-        match self {
-            Mode::Rx => true,
-            _ => false,
-        }
+        matches!(self, Mode::Rx)
     }
 
     // Whether registers other than STATUS cannot be written now.
     pub fn is_busy(self) -> bool
         ensures { result ≡ busy self }
     {
-        match self {
-            Mode::Tuning { .. } | Mode::Waiting { .. } | Mode::Rx => true,
-            _ => false,
-        }
+        matches!(self, Mode::Tuning { .. } | Mode::Waiting { .. } | Mode::Rx)
     }
 }
 
 impl Core {
+    // Goes where a powered unit with nothing under way is.
+    fn rest(&mut self, role: Role)
+        ensures { self.new ≡ at_rest role self.old }
+    {
+        self.mode = match (role, self.ce) {
+            (_, false) => Mode::Standby,
+            (Role::Sender, true) => Mode::IdleTx,
+            (Role::Receiver, true) => Mode::Tuning { left: TUNING_TICKS },
+        };
+    }
+
     // A transaction begins.
     fn begin(&mut self)
         ensures { self.new ≡ begun self.old }
@@ -76,12 +76,8 @@ impl Core {
         ensures { self.new ≡ given_up role self.old }
     {
         self.flags.max_rt = true;
-        self.counts.lost = if self.counts.lost < 15 {
-            self.counts.lost + 1
-        } else {
-            15
-        };
-        self.mode = resting(role, self.ce);
+        self.counts.lost = self.counts.lost.saturating_add(1).min(15);
+        self.rest(role);
     }
 
     // One tick; `waiting` says whether a payload stands in the TX queue. The answer says whether the oldest payload is sent.
@@ -90,49 +86,27 @@ impl Core {
         ensures answer { result ≡ sends role retry self.old }
     {
         match (self.mode, role) {
-            (Mode::Starting { left }, _) if left > 1 => {
-                self.mode = Mode::Starting { left: left - 1 };
-                false
-            }
-            (Mode::Starting { .. }, _) => {
-                self.mode = resting(role, self.ce);
-                false
-            }
-            (Mode::IdleTx, _) if waiting && !self.flags.max_rt => {
-                self.begin();
-                false
-            }
-            (Mode::Tuning { left }, _) if left > 1 => {
-                self.mode = Mode::Tuning { left: left - 1 };
-                false
-            }
-            (Mode::Tuning { .. }, Role::Receiver) => {
-                self.mode = Mode::Rx;
-                false
-            }
+            (Mode::Starting { left }, _) if left > 1 => self.mode = Mode::Starting {
+                left: left - 1,
+            },
+            (Mode::Starting { .. }, _) => self.rest(role),
+            (Mode::IdleTx, _) if waiting && !self.flags.max_rt => self.begin(),
+            (Mode::Tuning { left }, _) if left > 1 => self.mode = Mode::Tuning { left: left - 1 },
+            (Mode::Tuning { .. }, Role::Receiver) => self.mode = Mode::Rx,
             (Mode::Tuning { .. }, Role::Sender) => {
-                self.mode = Mode::Waiting {
-                    left: retry.wait_ticks(),
-                };
-                true
+                self.mode = retry.waiting();
+                return true;
             }
-            (Mode::Waiting { left }, _) if left > 1 => {
-                self.mode = Mode::Waiting { left: left - 1 };
-                false
-            }
+            (Mode::Waiting { left }, _) if left > 1 => self.mode = Mode::Waiting { left: left - 1 },
             (Mode::Waiting { .. }, _) if self.counts.again < retry.count => {
                 self.counts.again += 1;
-                self.mode = Mode::Waiting {
-                    left: retry.wait_ticks(),
-                };
-                true
+                self.mode = retry.waiting();
+                return true;
             }
-            (Mode::Waiting { .. }, _) => {
-                self.give_up(role);
-                false
-            }
-            _ => false,
+            (Mode::Waiting { .. }, _) => self.give_up(role),
+            _ => {}
         }
+        false
     }
 
     // Sets the level of CE; a level that is there already changes nothing.
@@ -144,7 +118,7 @@ impl Core {
         }
         self.ce = high;
         match (self.mode, role) {
-            (Mode::Standby, _) if high => self.mode = resting(role, true),
+            (Mode::Standby, _) if high => self.rest(role),
             (Mode::IdleTx, _) if !high => self.mode = Mode::Standby,
             (Mode::Tuning { .. } | Mode::Rx, Role::Receiver) if !high => self.mode = Mode::Standby,
             _ => {}
@@ -159,7 +133,7 @@ impl Core {
         if self.ce && left {
             self.begin();
         } else {
-            self.mode = resting(Role::Sender, self.ce);
+            self.rest(Role::Sender);
         }
     }
 
@@ -168,7 +142,7 @@ impl Core {
         ensures { self.new ≡ flushed self.old }
     {
         if self.mode.is_busy() {
-            self.mode = resting(Role::Sender, self.ce);
+            self.rest(Role::Sender);
         }
     }
 
