@@ -45,7 +45,7 @@ pub fn together(heap: Global, word: &[u8]) -> Result<Option<Vec<u8>>, AllocError
 }
 
 // Why words are not read as bytes: one of them, counted from 1, is no byte, or there is no memory.
-#[derive(Clone, Copy)]
+#[derive(Clone, Copy, Debug, PartialEq, Eq)]
 pub enum Unread {
     NoByte { word: usize },
     Memory,
