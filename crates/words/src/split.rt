@@ -1,7 +1,6 @@
 // A line, cut into words.
 ghost use Rattle.std.specs.Prelude.{◌≡◌, [], length, IfOk, ◌==◌, slice_index_or};
 ghost use Rattle.std.specs.List.{before_first};
-ghost use Rattle.std.specs.Str.{bytes_eq};
 ghost use Rattle.words.specs.Split.{blank, texts, words_of, Cut};
 
 use std::alloc::{AllocError, Global};
@@ -43,11 +42,4 @@ pub fn word<'a>(words: &[&'a [u8]], at: usize) -> &'a [u8]
     ensures { result.now ≡ slice_index_or (texts words.now) at [] }
 {
     words.get(at).copied().unwrap_or(b"")
-}
-
-// Whether the word is this text.
-pub fn is(word: &[u8], text: &str) -> bool
-    ensures { result ≡ bytes_eq word.now text.now }
-{
-    word == text.as_bytes()
 }
