@@ -1,5 +1,5 @@
 -- The steps that lead from words to a request, forward and back.
-use Rattle.std.proofs.Common.{◌≡◌, ℕ, ◌+◌, ◌≤◌, Bool, true, false, cond, leb, ltb, List, [], ◌∷◌, ◌++◌, reverse, length, Some, None, Ok, Err, Option, Result, sym, refl, ap, ◌∙◌, subst, append_assoc, append-nil, arith}
+use Rattle.std.proofs.Common.{◌≡◌, ℕ, ◌+◌, ◌≤◌, Bool, true, false, cond, leb, ltb, List, [], ◌∷◌, ◌++◌, reverse, length, Some, None, Ok, Err, Option, Result, sym, refl, ap, ◌∙◌, subst, append_assoc, append-nil, arith, rules}
 use Rattle.std.specs.Str.{bytes_eq}
 use Rattle.std.proofs.lemmas.Slice.Eq.{bytes_eq-Decides}
 use Rattle.std.proofs.lemmas.Bool.{le-leb, leb-true, le-ltb, ltb-false}
@@ -21,16 +21,10 @@ pub ok_same : {X : Type 0} {v w : X} → ◌≡◌ {A = Result X Cannot} (Ok v) 
 ok_same h = cc
 
 pub inside : (low high n : ℕ) → low ≤ n → n ≤ high → within low high n ≡ true
-inside low high n l h = ap (λ b. cond b (leb n high) false) (le-leb low n l) ∙ le-leb n high h
-
-pub both : (a b : Bool) → cond a b false ≡ true → (a ≡ true) × (b ≡ true)
-both true b h = (refl, h)
-both false b h = let z : ◌≡◌ {A = ℕ} 0 1 = cc in absurd (omega arith)
+inside low high n l h = search rules
 
 pub within_parts : (low high n : ℕ) → within low high n ≡ true → (low ≤ n) × (n ≤ high)
-within_parts low high n h =
-    let p = both (leb low n) (leb n high) h in
-    (leb-true low n p.0, leb-true n high p.1)
+within_parts low high n h = grind arith
 
 pub then_ok : {X Y : Type 0} (x : Result X Cannot) (f : X → Result Y Cannot) (y : Y) → then x f ≡ Ok y → (v : X) × ((x ≡ Ok v) × (f v ≡ Ok y))
 then_ok (Ok v) f y h = (v, (refl, h))
