@@ -119,8 +119,8 @@ sound : (ws : List (List ℕ)) (q : Request) → line_of ws ≡ Ok q → Asks ws
 sound [] q = never (Word 1 want.Form) q
 sound (w ∷ ws) q =
     choose (Some form.Kind) _ (codes "kind") w ws q (kind_back w ws q) (
-      choose (Some form.Pack) _ (codes "pack") w ws q (pack_back w ws q) (
-        choose (Some form.Read) _ (codes "read") w ws q (read_back w ws q) (unit_line w ws q)))
+    choose (Some form.Pack) _ (codes "pack") w ws q (pack_back w ws q) (
+    choose (Some form.Read) _ (codes "read") w ws q (read_back w ws q) (unit_line w ws q)))
 
 -- ---- what is answered settles the line
 

@@ -155,9 +155,9 @@ choose o p t w ws q = chosen (bytes_eq w t) o p t w ws q refl
 pub unit_line : (w : List ℕ) (ws : List (List ℕ)) (q : Request) → line_as (unit_form_named w) (w ∷ ws) ≡ Ok q → Asks (w ∷ ws) q
 unit_line w ws q =
     choose (Some form.Bench) _ (codes "bench") w ws q (plain_back (codes "bench") form.Bench bench benches w ws q) (
-      choose (Some form.Load) _ (codes "load") w ws q (load_back w ws q) (
-        choose (Some form.Field) _ (codes "field") w ws q (field_back w ws q) (
-          choose (Some form.Check) _ (codes "check") w ws q (plain_back (codes "check") form.Check check checks w ws q) (
-            choose (Some form.Box) _ (codes "box") w ws q (plain_back (codes "box") form.Box box boxes w ws q) (
-              choose (Some form.Irq) _ (codes "irq") w ws q (plain_back (codes "irq") form.Irq irq irqs w ws q) (
-                choose (Some form.Command) None (codes "command") w ws q (command_back w ws q) (never (Word 1 want.Form) q)))))))
+    choose (Some form.Load) _ (codes "load") w ws q (load_back w ws q) (
+    choose (Some form.Field) _ (codes "field") w ws q (field_back w ws q) (
+    choose (Some form.Check) _ (codes "check") w ws q (plain_back (codes "check") form.Check check checks w ws q) (
+    choose (Some form.Box) _ (codes "box") w ws q (plain_back (codes "box") form.Box box boxes w ws q) (
+    choose (Some form.Irq) _ (codes "irq") w ws q (plain_back (codes "irq") form.Irq irq irqs w ws q) (
+    choose (Some form.Command) None (codes "command") w ws q (command_back w ws q) (never (Word 1 want.Form) q)))))))

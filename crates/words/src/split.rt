@@ -30,13 +30,6 @@ pub fn words<'a>(heap: Global, line: &'a [u8]) -> Result<Vec<&'a [u8]>, AllocErr
         .collect(heap)
 }
 
-// How many words there are.
-pub fn count(given: &[&[u8]]) -> usize
-    ensures { result ≡ length (texts given.now) }
-{
-    given.len()
-}
-
 // The word at a place, counted from 0; past the last word an empty one.
 pub fn word<'a>(words: &[&'a [u8]], at: usize) -> &'a [u8]
     ensures { result.now ≡ slice_index_or (texts words.now) at [] }
