@@ -5,6 +5,7 @@ ghost use Rattle.words.specs.Split.{blank, texts, words_of, Cut};
 
 use std::alloc::{AllocError, Global};
 
+// is_ascii_whitespace has the form feed too, which belongs to a word here.
 fn is_blank(c: u8) -> bool
     ensures { result ≡ blank c }
 {

@@ -22,6 +22,8 @@ pub fn decimal_reads_back(n: u64)
     let _n = n;
 }
 
+// The three loops below stay apart: one function over any iterator of bytes would need more contract than it saves code.
+
 // Bytes as separate words: a blank and two digits for each.
 #[derive(Clone, Copy)]
 pub struct Apart<'a>(pub &'a [u8]);
