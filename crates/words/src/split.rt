@@ -1,5 +1,5 @@
 // A line, cut into words.
-ghost use Rattle.std.specs.Prelude.{◌≡◌, [], length, IfOk, ◌==◌, slice_index_or};
+ghost use Rattle.std.specs.Prelude.{◌≡◌, [], IfOk, ◌==◌, slice_index_or};
 ghost use Rattle.std.specs.List.{before_first};
 ghost use Rattle.words.specs.Split.{blank, texts, words_of, Cut};
 
