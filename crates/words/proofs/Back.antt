@@ -16,7 +16,7 @@ first b bs h = h 0
 abbrev rest : (b : ℕ) (bs : List ℕ) → Bytes (b ∷ bs) → Bytes bs
 rest b bs h = λ i. h (suc i)
 
-byte_back : (b : ℕ) → b < 256 → byte_of (byte_shown b) ≡ Some b
+pub byte_back : (b : ℕ) → b < 256 → byte_of (byte_shown b) ≡ Some b
 byte_back b h = search rules
 
 -- ---- one word for each byte

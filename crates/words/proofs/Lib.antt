@@ -4,3 +4,4 @@ pub mod Pairs
 pub mod Back
 pub mod Grammar
 pub mod Chain
+pub mod Shown

@@ -1,5 +1,6 @@
 -- How numbers and bytes are written.
 use Rattle.std.specs.Prelude.{ℕ, ◌+◌, ◌-◌, ◌*◌, ◌/◌, ◌%◌, ◌^◌, Bool, false, cond, List, [], ◌∷◌, ◌++◌, length, Some, None, decimal, Option, ◌==◌, nat_le, nat_lt, slice_index}
+use Rattle.std.specs.List.{flat_map}
 
 abbrev pub within : ℕ → ℕ → ℕ → Bool
 within low high c = cond (nat_le low c) (nat_le c high) false
@@ -54,13 +55,11 @@ byte_shown b = digit_shown (b / 16) ∷ digit_shown (b % 16) ∷ []
 
 -- a blank and two digits for each byte
 abbrev pub bytes_shown : List ℕ → List ℕ
-bytes_shown [] = []
-bytes_shown (b ∷ bs) = (32 ∷ byte_shown b) ++ bytes_shown bs
+bytes_shown bs = flat_map (λ b. 32 ∷ byte_shown b) bs
 
 -- two digits for each byte, with no blank
 abbrev pub digits_shown : List ℕ → List ℕ
-digits_shown [] = []
-digits_shown (b ∷ bs) = byte_shown b ++ digits_shown bs
+digits_shown bs = flat_map byte_shown bs
 
 -- a number in decimal, with no zero in front
 abbrev pub decimal_shown : ℕ → List ℕ

@@ -1,14 +1,16 @@
 // Numbers and bytes as results write them. A call that finds no memory may leave a part written.
-ghost use Rattle.std.specs.Prelude.{◌≡◌, ◌<◌, ◌∷◌, Some, Ok, OnOk};
+ghost use Rattle.std.specs.Prelude.{◌≡◌, ℕ, ◌<◌, ◌∷◌, reverse, Some, Ok, OnOk};
 ghost use Rattle.words.specs.Numbers.{byte_of, together_of, decimal_of, digit_shown, byte_shown, bytes_shown, digits_shown, decimal_shown};
 ghost use Rattle.words.specs.Added.{Adds};
 ghost use Rattle.words.specs.Split.{words_of};
 ghost use Rattle.words.specs.Bytes.{bytes_from};
 
 use std::alloc::AllocError;
+use std::fmt;
 
-// Nothing is done: the contract says that bytes read back from their digits, apart and together.
-fn bytes_read_back(bytes: &[u8])
+// Nothing is done: the contract says that bytes read back from their digits, one by one, apart and together.
+pub fn bytes_read_back(bytes: &[u8])
+    ensures each { (b : ℕ) → b < 256 → byte_of (byte_shown b) ≡ Some b }
     ensures apart { bytes_from 0 (words_of (bytes_shown bytes.now)) ≡ Ok bytes.now }
     ensures joined { together_of (digits_shown bytes.now) ≡ Some bytes.now }
 {
@@ -16,9 +18,56 @@ fn bytes_read_back(bytes: &[u8])
 }
 
 // Nothing is done: the contract says that a number reads back from its decimal digits.
-fn decimal_reads_back(_n: u64)
-    ensures { decimal_of (decimal_shown _n) ≡ Some _n }
-{}
+pub fn decimal_reads_back(n: u64)
+    ensures { decimal_of (decimal_shown n) ≡ Some n }
+{
+    let _n = n;
+}
+
+// Bytes as separate words: a blank and two digits for each.
+#[derive(Clone, Copy)]
+pub struct Apart<'a>(pub &'a [u8]);
+
+impl fmt::Display for Apart<'_> {
+    ghost output = { λ x. Some (bytes_shown x.0.now) };
+
+    fn fmt<W: fmt::Write>(&self, f: &mut fmt::Formatter<W>) -> fmt::Result {
+        for &b in self.0 {
+            write!(f, " {b:02X}")?;
+        }
+        Ok(())
+    }
+}
+
+// Bytes written together: two digits for each, with no blank.
+#[derive(Clone, Copy)]
+pub struct Joined<'a>(pub &'a [u8]);
+
+impl fmt::Display for Joined<'_> {
+    ghost output = { λ x. Some (digits_shown x.0.now) };
+
+    fn fmt<W: fmt::Write>(&self, f: &mut fmt::Formatter<W>) -> fmt::Result {
+        for &b in self.0 {
+            write!(f, "{b:02X}")?;
+        }
+        Ok(())
+    }
+}
+
+// The same in the opposite order: an address is kept low byte first and written high byte first.
+#[derive(Clone, Copy)]
+pub struct Reversed<'a>(pub &'a [u8]);
+
+impl fmt::Display for Reversed<'_> {
+    ghost output = { λ x. Some (digits_shown (reverse x.0.now)) };
+
+    fn fmt<W: fmt::Write>(&self, f: &mut fmt::Formatter<W>) -> fmt::Result {
+        for &byte in self.0.iter().rev() {
+            write!(f, "{byte:02X}")?;
+        }
+        Ok(())
+    }
+}
 
 fn digit(d: u8) -> u8
     requires { d < 16 }
