@@ -1,7 +1,7 @@
 -- The burst law of every cyclic redundancy check whose polynomial has its low bit set, over the width.
 -- Assumes nothing.
-use Rattle.std.specs.Prelude.{◌≡◌, ℕ, zero, suc, ◌+◌, ◌-◌, ◌*◌, ◌/◌, ◌%◌, ◌^◌, ◌<◌, ◌≤◌, Bool, true, false, cond, List, [], ◌∷◌, ◌++◌, length, ◌==◌, bit_xor, nat_eq, refl}
-use Rattle.std.proofs.Common.{sym, ◌∙◌, ap₂, mod-lt, mod-eq_of_lt, mul-one, mul_assoc, pow-suc, arith, pow_pos, shr-shr, shr_lt}
+use Rattle.std.specs.Prelude.{◌≡◌, ℕ, zero, suc, ◌+◌, ◌-◌, ◌*◌, ◌/◌, ◌%◌, ◌^◌, ◌<◌, ◌≤◌, Bool, true, false, cond, ◌⊎◌, List, [], ◌∷◌, ◌++◌, length, ◌==◌, bit_xor, nat_eq, refl}
+use Rattle.std.proofs.Common.{sym, ◌∙◌, ap₂, inl, inr, mod-lt, mod-eq_of_lt, mul-one, mul_assoc, pow-suc, arith, pow_pos, shr-shr, shr_lt}
 use Rattle.std.proofs.Math.Path.{ap, subst}
 use Rattle.std.proofs.Math.Nat.{mul-mod_left, mod-mod}
 use Rattle.std.specs.Int.Bits.{xor_mod, xor_assoc, xor_self, xor_zero_r}
@@ -238,3 +238,20 @@ module _ (v p : ℕ) (odd : p % 2 ≡ 1) (small : p < 2 ^ suc v) where
       let same : run (suc v) p q d ≡ run (suc v) p q e =
       run_injective b (run (suc v) p q d) (run (suc v) p q e) (run_below q hq d) (run_below q hq e) both in
       ne ((window d e l 0 (omega (arith, n)) q q (ap (λ (m : ℕ). m % 2 ^ (length d + 0)) same)).1 refl)
+
+-- ---- over the width itself
+
+pub positive : {w : ℕ} → (w ≡ 8) ⊎ (w ≡ 16) → 0 < w
+positive (inl e) = omega (arith, e)
+positive (inr e) = omega (arith, e)
+
+pub every_below :
+    (w p r : ℕ) (f : List Bool → ℕ) → f ≡ run w p r → 0 < w → p % 2 ≡ 1 → p < 2 ^ w → r < 2 ^ w
+    → (s : List Bool) → f s < 2 ^ w
+every_below zero p r f e h odd small begun s = absurd (omega (arith, h))
+every_below (suc v) p r f e h odd small begun s = subst (λ (g : List Bool → ℕ). g s < 2 ^ suc v) (sym e) (run_below v p odd small r begun s)
+
+pub every_burst :
+    (w p r : ℕ) (f : List Bool → ℕ) → f ≡ run w p r → 0 < w → p % 2 ≡ 1 → p < 2 ^ w → r < 2 ^ w → Burst w f
+every_burst zero p r f e h odd small begun = absurd (omega (arith, h))
+every_burst (suc v) p r f e h odd small begun = subst (Burst (suc v)) (sym e) (burst v p odd small r begun)

@@ -4,18 +4,24 @@ use Rattle.std.specs.Prelude.{◌≡◌, ℕ, zero, suc, ◌+◌, ◌-◌, ◌*�
 use Rattle.std.proofs.Common.{sym, ◌∙◌, ap, inl, inr, arith, length-append}
 use Rattle.std.proofs.Math.Nat.{zero-div}
 use Rattle.std.proofs.lemmas.Bool.{cases_lt}
-use Rattle.std.proofs.lemmas.List.{take_more, take_all}
+use Rattle.std.proofs.lemmas.List.{append_assoc, get_or_append_left, take_more, take_all, take-append-le}
+use Rattle.std.proofs.Math.Seq.{take-append-add}
 use Rattle.checks.specs.Crc.{step, run}
 use Rattle.checks.specs.Bits.{bit, word, bits}
 
-word_at : (k b : ℕ) (rest : List Bool) (i : ℕ) → i < k → slice_index_or (word k b ++ rest) i false ≡ bit b (k - suc i)
+pub bit_of_word : (k b i : ℕ) → i < k → slice_index_or (word k b) i false ≡ bit b (k - 1 - i)
 unfolding word
-word_at zero b rest i h = absurd (omega (arith, h))
-word_at (suc k) b rest zero h = let q : k ≡ suc k - suc zero = omega arith in ap (λ (n : ℕ). bit b n) q
-word_at (suc k) b rest (suc i) h =
-    let q : k - suc i ≡ suc k - suc (suc i) = omega arith in
+bit_of_word zero b i h = absurd (omega (arith, h))
+bit_of_word (suc k) b zero h = let q : k ≡ suc k - 1 - 0 = omega arith in ap (λ (n : ℕ). bit b n) q
+bit_of_word (suc k) b (suc i) h =
+    let q : k - 1 - i ≡ suc k - 1 - suc i = omega arith in
     let l : i < k = omega (arith, h) in
-    word_at k b rest i l ∙ ap (λ (n : ℕ). bit b n) q
+    bit_of_word k b i l ∙ ap (λ (n : ℕ). bit b n) q
+
+pub length_word : (k b : ℕ) → length (word k b) ≡ k
+unfolding word
+length_word zero b = refl
+length_word (suc k) b = ap suc (length_word k b)
 
 word_past : (k b : ℕ) (rest : List Bool) (j : ℕ) → slice_index_or (word k b ++ rest) (k + j) false ≡ slice_index_or rest j false
 unfolding word
@@ -23,11 +29,6 @@ word_past zero b rest j = let q : 0 + j ≡ j = omega arith in ap (λ (n : ℕ).
 word_past (suc k) b rest j =
     let q : suc k + j ≡ suc (k + j) = omega arith in
     ap (λ (n : ℕ). get_or (word (suc k) b ++ rest) n false) q ∙ word_past k b rest j
-
-pub length_word : (k b : ℕ) → length (word k b) ≡ k
-unfolding word
-length_word zero b = refl
-length_word (suc k) b = ap suc (length_word k b)
 
 pub length_bits : (bs : List ℕ) → length (bits bs) ≡ 8 * length bs
 unfolding bits
@@ -44,8 +45,8 @@ bits_at (b ∷ bs) i =
     elim (cases_lt i 8) [
       | inl l ↦
           let q : i / 8 ≡ 0 = omega arith in
-          let m : 8 - suc i ≡ 7 - i % 8 = omega arith in
-          word_at 8 b (bits bs) i l ∙ ap (λ (n : ℕ). bit b n) m
+          let m : 8 - 1 - i ≡ 7 - i % 8 = omega arith in
+          get_or_append_left (word 8 b) (bits bs) false i (omega (arith, l, length_word 8 b)) ∙ bit_of_word 8 b i l ∙ ap (λ (n : ℕ). bit b n) m
           ∙ ap (λ (n : ℕ). bit (slice_index (b ∷ bs) n) (7 - i % 8)) (sym q)
       | inr l ↦
           let j : ℕ = i - 8 in
@@ -63,13 +64,40 @@ run_append w p r [] b = refl
 run_append w p r (x ∷ a) b = run_append w p (step w p r x) a b
 
 pub run_more :
-    (w p r : ℕ) (bs : List ℕ) (i : ℕ) → i < 8 * length bs
-    → run w p r (take (i + 1) (bits bs)) ≡ step w p (run w p r (take i (bits bs))) (slice_index_or (bits bs) i false)
-run_more w p r bs i h =
-    let l : i < length (bits bs) = omega (arith, h, length_bits bs) in
-    ap (run w p r) (take_more (bits bs) i false l) ∙ run_append w p r (take i (bits bs)) (slice_index_or (bits bs) i false ∷ [])
+    (w p r : ℕ) (s : List Bool) (i : ℕ) → i < length s
+    → run w p r (take (i + 1) s) ≡ step w p (run w p r (take i s)) (slice_index_or s i false)
+run_more w p r s i h = ap (run w p r) (take_more s i false h) ∙ run_append w p r (take i s) (slice_index_or s i false ∷ [])
+
+-- the first bits, up to a place within byte i
+bits_more :
+    (bs : List ℕ) (i count : ℕ) → i < length bs → count ≤ 8
+    → take (8 * i + count) (bits bs) ≡ take (8 * i) (bits bs) ++ take count (word 8 (slice_index bs i))
+unfolding bits
+bits_more [] i count h le = absurd (omega (arith, h))
+bits_more (b ∷ bs) zero count h le =
+    let q : 8 * 0 + count ≡ count = omega arith in
+    ap (λ (n : ℕ). take n (word 8 b ++ bits bs)) q ∙ take-append-le count (word 8 b) (bits bs) (omega (arith, length_word 8 b))
+bits_more (b ∷ bs) (suc i) count h le =
+    let w = length_word 8 b in
+    let q : 8 * suc i + count ≡ length (word 8 b) + (8 * i + count) = omega (arith, w) in
+    let p : 8 * suc i ≡ length (word 8 b) + 8 * i = omega (arith, w) in
+    ap (λ (n : ℕ). take n (word 8 b ++ bits bs)) q ∙ take-append-add (word 8 b) (bits bs) (8 * i + count)
+    ∙ ap (λ (s : List Bool). word 8 b ++ s) (bits_more bs i count (omega (arith, h)) le)
+    ∙ sym (append_assoc (word 8 b) (take (8 * i) (bits bs)) (take count (word 8 (slice_index bs i))))
+    ∙ ap (λ (s : List Bool). s ++ take count (word 8 (slice_index bs i)))
+    (sym (ap (λ (n : ℕ). take n (word 8 b ++ bits bs)) p ∙ take-append-add (word 8 b) (bits bs) (8 * i)))
+
+-- a byte's first bits are as many more steps
+pub run_byte :
+    (w p r : ℕ) (bs : List ℕ) (i count : ℕ) → i < length bs → count ≤ 8
+    → run w p r (take (8 * i + count) (bits bs)) ≡ run w p (run w p r (take (8 * i) (bits bs))) (take count (word 8 (slice_index bs i)))
+run_byte w p r bs i count h le =
+    ap (run w p r) (bits_more bs i count h le) ∙ run_append w p r (take (8 * i) (bits bs)) (take count (word 8 (slice_index bs i)))
 
 -- past the end nothing more is taken
-pub take_past : (bs : List ℕ) (i n : ℕ) → length bs ≤ i / 8 → i ≤ n → take i (bits bs) ≡ take n (bits bs)
-take_past bs i n h l =
-    take_all i (bits bs) (omega (arith, length_bits bs)) ∙ sym (take_all n (bits bs) (omega (arith, length_bits bs)))
+pub take_reached : (bs : List ℕ) (n : ℕ) → take (n - (n - 8 * length bs)) (bits bs) ≡ take n (bits bs)
+take_reached bs n =
+    elim (cases_lt n (8 * length bs)) [
+      | inl l ↦ ap (λ (k : ℕ). take k (bits bs)) (omega arith)
+      | inr l ↦ take_all _ (bits bs) (omega (arith, length_bits bs)) ∙ sym (take_all n (bits bs) (omega (arith, length_bits bs)))
+    ]

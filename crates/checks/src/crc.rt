@@ -1,119 +1,178 @@
 // Cyclic redundancy checks, bit by bit.
-ghost use Rattle.std.specs.Prelude.{◌≡◌, ℕ, take, refl};
-ghost use Rattle.checks.specs.Bits.{bits};
-ghost use Rattle.checks.specs.Crc.{step, run, crc8, crc16};
+ghost use Rattle.std.specs.Prelude.{◌≡◌, ℕ, ◌%◌, ◌^◌, ◌<◌, ◌≤◌, Bool, ◌⊎◌, List, take, refl};
 ghost use Rattle.std.proofs.Common.{lit<, rules};
-ghost use Rattle.checks.specs.Law.{run_below};
-ghost use Rattle.checks.specs.Law;
+ghost use Rattle.checks.specs.Bits.{word, bits};
+ghost use Rattle.checks.specs.Crc.{step, run, crc8, crc16};
+ghost use Rattle.checks.specs.Law.{positive, every_below, every_burst};
 
-use crate::bits::bit_at;
-use crate::kind::Check;
+use crate::kind::{Check, Word};
 
-// A shift register as wide as its type.
-trait Register: Copy {
-    ghost wide: { ℕ };
+// What tells one cyclic redundancy check from another.
+pub trait Parameters {
+    type Word: Word;
 
-    ghost held: { Self → ℕ };
+    const WIDTH: usize;
 
-    // What one bit makes of the register.
-    fn step(self, polynomial: Self, bit: bool) -> Self
-        ensures { held result ≡ step wide (held polynomial) (held self) bit };
+    const POLYNOMIAL: u16;
+
+    const START: u16;
+
+    ghost WIDTH: { ℕ };
+
+    ghost POLYNOMIAL: { ℕ };
+
+    ghost START: { ℕ };
+
+    ghost number: { List Bool → ℕ };
+
+    // The register's number as the check's word.
+    fn word(register: u16) -> Self::Word
+        requires { register < 2 ^ WIDTH }
+        ensures { Self.Word.Word.value result ≡ register };
+
+    ghost ran: { number ≡ run WIDTH POLYNOMIAL START };
+
+    ghost wide: { (WIDTH ≡ 8) ⊎ (WIDTH ≡ 16) };
+
+    ghost odd: { POLYNOMIAL % 2 ≡ 1 };
+
+    ghost small: { POLYNOMIAL < 2 ^ WIDTH };
+
+    ghost begun: { START < 2 ^ WIDTH };
 }
 
-impl Register for u8 {
-    ghost wide = { 8 };
-
-    ghost held = { λ x. x };
-
-    fn step(self, polynomial: u8, bit: bool) -> u8 {
-        let shifted = self << 1;
-        if (self >> 7 & 1 == 1) ^ bit {
-            shifted ^ polynomial
-        } else {
-            shifted
-        }
-    }
-}
-
-impl Register for u16 {
-    ghost wide = { 16 };
-
-    ghost held = { λ x. x };
-
-    fn step(self, polynomial: u16, bit: bool) -> u16 {
-        let shifted = self << 1;
-        if (self >> 15 & 1 == 1) ^ bit {
-            shifted ^ polynomial
-        } else {
-            shifted
-        }
-    }
-}
-
-// The register after the first n bits, after all if there are fewer.
-fn remainder<R: Register>(bytes: &[u8], n: usize, polynomial: R, start: R) -> R
-    ensures { R.held result ≡ run R.wide (R.held polynomial) (R.held start) (take n (bits bytes.now)) }
+// What one bit makes of the register.
+fn step<P: Parameters>(register: u16, bit: bool) -> u16
+    ensures { result ≡ step P.WIDTH P.POLYNOMIAL register bit }
 {
-    let mut register = start;
-    for i in 0..n {
-        if i / 8 >= bytes.len() {
-            break;
-        }
-        register = register.step(polynomial, bit_at(bytes, i));
+    let shifted = register << 1 & u16::MAX >> (16 - P::WIDTH);
+    if (register >> (P::WIDTH - 1) & 1 == 1) ^ bit {
+        shifted ^ P::POLYNOMIAL
+    } else {
+        shifted
+    }
+}
+
+// What the first bits of a byte make of the register.
+fn steps<P: Parameters>(register: u16, byte: u8, count: usize) -> u16
+    requires { count ≤ 8 }
+    ensures { result ≡ run P.WIDTH P.POLYNOMIAL register (take count (word 8 byte)) }
+{
+    let mut register = register;
+    for k in 0..count {
+        register = step::<P>(register, byte >> (7 - k) & 1 == 1);
     }
     register
+}
+
+// The register after the first n bits, after all if there are fewer. Slices have no iterator over bits, so the bytes are
+// gone through, and of each the places of its bits.
+fn remainder<P: Parameters>(bytes: &[u8], n: usize) -> u16
+    ensures { result ≡ run P.WIDTH P.POLYNOMIAL P.START (take n (bits bytes.now)) }
+{
+    let mut register = P::START;
+    let mut left = n;
+    for byte in bytes {
+        if left == 0 {
+            break;
+        }
+        let count = left.min(8);
+        register = steps::<P>(register, *byte, count);
+        left -= count;
+    }
+    register
+}
+
+impl<P: Parameters> Check for P {
+    type Word = P::Word;
+
+    const W: usize = P::WIDTH;
+
+    ghost width = { P.WIDTH };
+
+    ghost meaning = { P.number };
+
+    ghost wide = { P.wide };
+
+    ghost below = { every_below P.WIDTH P.POLYNOMIAL P.START P.number P.ran (positive P.wide) P.odd P.small P.begun };
+
+    ghost burst = { every_burst P.WIDTH P.POLYNOMIAL P.START P.number P.ran (positive P.wide) P.odd P.small P.begun };
+
+    fn size() -> usize {
+        P::WIDTH
+    }
+
+    fn of(bytes: &[u8], n: usize) -> P::Word {
+        P::word(remainder::<P>(bytes, n))
+    }
 }
 
 // Polynomial 07 from FF.
 pub struct Crc8;
 
-impl Check for Crc8 {
+impl Parameters for Crc8 {
     type Word = u8;
 
-    const W: usize = 8;
+    const WIDTH: usize = 8;
 
-    ghost width = { 8 };
+    const POLYNOMIAL: u16 = 0x07;
 
-    ghost meaning = { crc8 };
+    const START: u16 = 0xFF;
+
+    ghost WIDTH = { 8 };
+
+    ghost POLYNOMIAL = { 0x07 };
+
+    ghost START = { 0xFF };
+
+    ghost number = { crc8 };
+
+    ghost ran = { refl };
 
     ghost wide = { Prim.search rules };
 
-    ghost below = { λ s. run_below 7 0x07 refl (lit< tt) 0xFF (lit< tt) s };
+    ghost odd = { refl };
 
-    ghost burst = { Law.burst 7 0x07 refl (lit< tt) 0xFF (lit< tt) };
+    ghost small = { lit< tt };
 
-    fn size() -> usize {
-        Self::W
-    }
+    ghost begun = { lit< tt };
 
-    fn of(bytes: &[u8], n: usize) -> u8 {
-        remainder::<u8>(bytes, n, 0x07, 0xFF)
+    fn word(register: u16) -> u8 {
+        register as u8
     }
 }
 
 // Polynomial 1021 from FFFF.
 pub struct Crc16;
 
-impl Check for Crc16 {
+impl Parameters for Crc16 {
     type Word = u16;
 
-    const W: usize = 16;
+    const WIDTH: usize = 16;
 
-    ghost width = { 16 };
+    const POLYNOMIAL: u16 = 0x1021;
 
-    ghost meaning = { crc16 };
+    const START: u16 = 0xFFFF;
+
+    ghost WIDTH = { 16 };
+
+    ghost POLYNOMIAL = { 0x1021 };
+
+    ghost START = { 0xFFFF };
+
+    ghost number = { crc16 };
+
+    ghost ran = { refl };
 
     ghost wide = { Prim.search rules };
 
-    ghost below = { λ s. run_below 15 0x1021 refl (lit< tt) 0xFFFF (lit< tt) s };
+    ghost odd = { refl };
 
-    ghost burst = { Law.burst 15 0x1021 refl (lit< tt) 0xFFFF (lit< tt) };
+    ghost small = { lit< tt };
 
-    fn size() -> usize {
-        Self::W
-    }
+    ghost begun = { lit< tt };
 
-    fn of(bytes: &[u8], n: usize) -> u16 {
-        remainder::<u16>(bytes, n, 0x1021, 0xFFFF)
+    fn word(register: u16) -> u16 {
+        register
     }
 }

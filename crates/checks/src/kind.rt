@@ -3,7 +3,8 @@ ghost use Rattle.std.specs.Prelude.{◌≡◌, ℕ, ◌^◌, ◌<◌, Bool, ◌�
 ghost use Rattle.checks.specs.Bits.{bits};
 ghost use Rattle.checks.specs.Burst.{Burst};
 
-// A word that a check answers: a number of at most 16 bits.
+// A word that a check answers: a number of at most 16 bits. A trait of our own and no `Into<u16>`, whose ghost member is
+// a relation: `Check` needs the one number that a word is.
 pub trait Word: Copy {
     ghost value: { Self → ℕ };
 
@@ -15,7 +16,7 @@ impl Word for u8 {
     ghost value = { λ x. x };
 
     fn number(self) -> u16 {
-        self as u16
+        u16::from(self)
     }
 }
 
@@ -40,7 +41,7 @@ pub trait Check {
     // the one number that the check of a bit string is
     ghost meaning: { List Bool → ℕ };
 
-    // W by a call, since a proof in generic code does not know a trait's constant.
+    // W by a call, whose answer generic code knows to be the width; of the constant it knows nothing.
     fn size() -> usize
         ensures { result ≡ width };
 

@@ -1,6 +1,6 @@
 -- A frame buffer-after down part after part.
 use Rattle.std.proofs.Common.{◌≡◌, ℕ, ◌+◌, ◌-◌, ◌*◌, ◌/◌, ◌<◌, ◌≤◌, Bool, true, false, cond, ◌⊎◌, List, [], ◌∷◌, ◌++◌, reverse, length, get_or, take, drop, replicate, sym, refl, ap, ◌∙◌, subst, ap₂, inl, inr, arith, length-append}
-use mir.Val.{bool_byte}
+use Rattle.std.specs.Int.{from_bool}
 use lib.Seq.{paste}
 use Rattle.std.proofs.lemmas.List.{append_assoc, length-reverse, get_or_append_left, take_at, drop_at, length-take-le, take-append-le, take-take}
 use Rattle.std.proofs.lemmas.List.Edits.{paste_all}
@@ -11,7 +11,7 @@ use Rattle.frames.specs.Packet.{Packet, control, covered, preamble, frame_bits, 
 use Rattle.frames.proofs.Places.{then_put, bits_append}
 use Rattle.frames.proofs.Octets.{bits_drop, front_octets, bits_octets, length_octets}
 
-word_one : (b : Bool) → word 1 (bool_byte b) ≡ b ∷ []
+word_one : (b : Bool) → word 1 (from_bool b) ≡ b ∷ []
 unfolding word
 word_one true = refl
 word_one false = refl
@@ -58,30 +58,31 @@ preamble_from s hs e h =
     ∙ ap (λ (xs : List ℕ). get_or (bits xs) 0 false) (sym e))
 
 pub put_all :
-    (s : Packet) (width len pre pid : ℕ) (hs ps : List ℕ) (d b1 b2 b3 b4 b5 b6 : List Bool)
-    → length hs ≡ width → length ps ≡ len → hs ≡ reverse s.address → ps ≡ s.payload → pid ≡ s.pid
+    (s : Packet) (width len pre pid flag : ℕ) (hs ps : List ℕ) (d b1 b2 b3 b4 b5 b6 : List Bool)
+    → length hs ≡ width → length ps ≡ len → hs ≡ reverse s.address → ps ≡ s.payload → pid ≡ s.pid → flag ≡ from_bool s.no_ack
     → b1 ≡ paste d 0 (word 8 pre) 8
     → b2 ≡ paste b1 8 (bits hs) (8 * length hs)
     → b3 ≡ paste b2 (8 + 8 * width) (word 6 len) 6
     → b4 ≡ paste b3 (8 + 8 * width + 6) (word 2 pid) 2
-    → b5 ≡ paste b4 (8 + 8 * width + 8) (word 1 (bool_byte s.no_ack)) 1
+    → b5 ≡ paste b4 (8 + 8 * width + 8) (word 1 flag) 1
     → b6 ≡ paste b5 (8 + 8 * width + 9) (bits ps) (8 * length ps)
     → b6 ≡ paste d 0 (word 8 pre ++ covered s) (8 + 8 * width + 9 + 8 * len)
 unfolding covered
-put_all s width len pre pid hs ps d b1 b2 b3 b4 b5 b6 lh lp eh ep ei f1 f2 f3 f4 f5 f6 =
+put_all s width len pre pid flag hs ps d b1 b2 b3 b4 b5 b6 lh lp eh ep ei ef f1 f2 f3 f4 f5 f6 =
     let s1 = word 8 pre in
     let s2 = bits hs in
     let s3 = word 6 len in
     let s4 = word 2 s.pid in
-    let s5 = word 1 (bool_byte s.no_ack) in
+    let s5 = word 1 (from_bool s.no_ack) in
     let s6 = bits ps in
     let l1 : 8 ≡ length s1 = sym (length_word 8 pre) in
     let l2 : 8 * length hs ≡ length s2 = sym (length_bits hs) in
     let l3 : 6 ≡ length s3 = sym (length_word 6 len) in
     let l4 : 2 ≡ length s4 = sym (length_word 2 s.pid) in
-    let l5 : 1 ≡ length s5 = sym (length_word 1 (bool_byte s.no_ack)) in
+    let l5 : 1 ≡ length s5 = sym (length_word 1 (from_bool s.no_ack)) in
     let l6 : 8 * length ps ≡ length s6 = sym (length_bits ps) in
     let f4' = f4 ∙ ap (λ (v : ℕ). paste b3 (8 + 8 * width + 6) (word 2 v) 2) ei in
+    let f5' = f5 ∙ ap (λ (v : ℕ). paste b4 (8 + 8 * width + 8) (word 1 v) 1) ef in
     let p2 = then_put d s1 s2 b1 b2 8 (8 * length hs) l1 l2 f1 f2 in
     let w2 : 8 + 8 * length hs ≡ 8 + 8 * width = omega arith in
     let p2' = subst (λ (n : ℕ). b2 ≡ paste d 0 (s1 ++ s2) n) w2 p2 in
@@ -92,7 +93,7 @@ put_all s width len pre pid hs ps d b1 b2 b3 b4 b5 b6 lh lp eh ep ei f1 f2 f3 f4
     let w4 : 8 + 8 * width + 6 + 2 ≡ 8 + 8 * width + 8 = omega arith in
     let p4' = subst (λ (n : ℕ). b4 ≡ paste d 0 (s1 ++ s2 ++ s3 ++ s4) n) w4 p4 in
     let n4 : 8 + 8 * width + 8 ≡ length (s1 ++ s2 ++ s3 ++ s4) = omega (arith, length-append (s1 ++ s2 ++ s3) s4) in
-    let p5 = then_put d (s1 ++ s2 ++ s3 ++ s4) s5 b4 b5 (8 + 8 * width + 8) 1 n4 l5 p4' f5 in
+    let p5 = then_put d (s1 ++ s2 ++ s3 ++ s4) s5 b4 b5 (8 + 8 * width + 8) 1 n4 l5 p4' f5' in
     let w5 : 8 + 8 * width + 8 + 1 ≡ 8 + 8 * width + 9 = omega arith in
     let p5' = subst (λ (n : ℕ). b5 ≡ paste d 0 (s1 ++ s2 ++ s3 ++ s4 ++ s5) n) w5 p5 in
     let n5 : 8 + 8 * width + 9 ≡ length (s1 ++ s2 ++ s3 ++ s4 ++ s5) = omega (arith, length-append (s1 ++ s2 ++ s3 ++ s4) s5) in

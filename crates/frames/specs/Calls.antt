@@ -1,5 +1,5 @@
 -- The calls' contracts.
-use Rattle.std.specs.Prelude.{◌≡◌, ℕ, ◌*◌, ◌<◌, ◌≤◌, min, Bool, List, ◌++◌, length, take, drop, replicate, Some, None, Ok, Err, Option, Result}
+use Rattle.std.specs.Prelude.{◌≡◌, ℕ, ◌*◌, ◌<◌, ◌≤◌, min, Bool, List, ◌++◌, length, take, drop, replicate, Some, None, Ok, Err, Option, Result, MatchResult, codes}
 use Rattle.std.proofs.Math.Nat.{min-le_right}
 use Rattle.checks.specs.Bits.{bits}
 use Rattle.frames.specs.declared.fields.Address.{Address}
@@ -7,6 +7,7 @@ use Rattle.frames.specs.declared.fields.AddressWidth.{AddressWidth}
 use Rattle.frames.specs.declared.fields.AddressWidth.TheVariants as width
 use Rattle.frames.specs.declared.fields.Pid.{Pid}
 use Rattle.frames.specs.declared.fields.Pid.TheVariants as pid
+use Rattle.frames.specs.declared.fields.OutOfRange.{OutOfRange}
 use Rattle.frames.specs.declared.fields.Payload.{Payload}
 use Rattle.frames.specs.declared.fields.Fields.{Fields}
 use Rattle.frames.specs.declared.fields.Heard.{Heard}
@@ -55,6 +56,20 @@ packet_of f = record {
 -- the number under which a refusal is reported
 abbrev pub refusal_number : Refusal → ℕ
 refusal_number FrameBytes = 18
+
+-- what is said of a refusal
+abbrev pub refusal_reason : Refusal → List ℕ
+refusal_reason FrameBytes = codes "bits beyond the frame's bytes"
+
+-- ---- conversions
+
+-- the width of so many bytes: there are 3, 4 or 5
+abbrev pub WidthOrNone : ℕ → Result AddressWidth OutOfRange → Type 0
+WidthOrNone bytes r = MatchResult r (λ w. width_of w ≡ bytes) (λ _. 3 ≤ bytes → bytes ≤ 5 → ⊥)
+
+-- the packet identity of a number below 4
+abbrev pub PidOrNone : ℕ → Result Pid OutOfRange → Type 0
+PidOrNone number r = MatchResult r (λ p. pid_number p ≡ number) (λ _. 4 ≤ number)
 
 -- ---- packing
 

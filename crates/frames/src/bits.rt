@@ -36,7 +36,7 @@ pub(crate) fn get_bits(buf: &[u8], at: usize, count: usize) -> u16
 {
     let mut v: u16 = 0;
     for i in 0..count {
-        v = v * 2 + bit_at(buf, at + i) as u16;
+        v = v * 2 + u16::from(bit_at(buf, at + i));
     }
     v
 }

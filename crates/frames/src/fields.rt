@@ -2,11 +2,11 @@
 ghost use Rattle.std.specs.Prelude.{◌≤◌};
 
 // How many bytes an address has on the air.
-#[derive(Clone, Copy, PartialEq, Eq)]
+#[derive(Clone, Copy, Debug, PartialEq, Eq)]
 pub enum AddressWidth {
-    Three,
-    Four,
-    Five,
+    Three = 3,
+    Four = 4,
+    Five = 5,
 }
 
 // An address of 3 to 5 bytes, low byte first, at the front of `held`.
@@ -17,13 +17,17 @@ pub struct Address {
 }
 
 // A packet identity: it tells a new payload from one that is sent again.
-#[derive(Clone, Copy, PartialEq, Eq)]
+#[derive(Clone, Copy, Debug, PartialEq, Eq)]
 pub enum Pid {
-    Zero,
-    One,
-    Two,
-    Three,
+    Zero = 0,
+    One = 1,
+    Two = 2,
+    Three = 3,
 }
+
+// A number that no address width or packet identity has.
+#[derive(Clone, Copy, Debug, PartialEq, Eq)]
+pub struct OutOfRange;
 
 // 0 to 32 bytes, at the front of `held`.
 #[derive(Clone, Copy)]
@@ -50,7 +54,7 @@ pub struct Heard {
 }
 
 // Why packing or reading is refused.
-#[derive(Clone, Copy, PartialEq, Eq)]
+#[derive(Clone, Copy, Debug, PartialEq, Eq)]
 pub enum Refusal {
     // a frame buffer under 42 bytes, or bits beyond the frame's bytes
     FrameBytes,

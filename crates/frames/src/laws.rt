@@ -12,10 +12,8 @@ use checks::Check;
 pub fn read_back<C: Check>(fields: &Fields, frame: &mut [u8]) -> Result<Option<Heard>, Refusal>
     ensures { ReadsBack (packet_of fields.now) (length frame.old) result }
 {
-    match pack::<C>(fields, frame) {
-        Ok(count) => read::<C>(frame, count, fields.address.wide),
-        Err(refusal) => Err(refusal),
-    }
+    let count = pack::<C>(fields, frame)?;
+    read::<C>(frame, count, fields.address.wide)
 }
 
 // A frame that is changed within W consecutive bits is read as it was sent, if only its preamble changed, or as nothing.

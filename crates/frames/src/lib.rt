@@ -10,7 +10,7 @@ mod packing;
 mod reading;
 
 pub use damage::change;
-pub use fields::{Address, AddressWidth, Fields, Heard, Payload, Pid, Refusal};
+pub use fields::{Address, AddressWidth, Fields, Heard, OutOfRange, Payload, Pid, Refusal};
 pub use laws::{damage_shows, read_back, worked_cases};
 pub use packing::pack;
 pub use reading::read;

@@ -1,35 +1,39 @@
 // Fields from bytes and numbers, and back.
 ghost use Rattle.std.specs.Prelude.{◌≡◌, ℕ, ◌+◌, ◌%◌, ◌<◌, ◌≤◌, [], length, take, if◌then◌else◌, Some, None, MatchOption, nat_le};
 ghost use Rattle.std.specs.Str.{bytes_eq};
+ghost use Rattle.std.specs.Cmp.{on_equiv, on_per, partial_equiv_from_equiv};
+ghost use Rattle.std.specs.Cmp.Lexicographic.{nat_list_eq_equiv};
 ghost use Rattle.frames.specs.Packet.{Valid};
-ghost use Rattle.frames.specs.Calls.{width_of, pid_number, next_pid, packet_of, address_bytes, payload_bytes, payload_of, refusal_number};
+ghost use Rattle.frames.specs.Calls.{width_of, pid_number, next_pid, packet_of, address_bytes, payload_bytes, payload_of, refusal_number, refusal_reason, WidthOrNone, PidOrNone};
 
 use crate::bits::known_bytes;
-use crate::fields::{Address, AddressWidth, Fields, Payload, Pid, Refusal};
+use crate::fields::{Address, AddressWidth, Fields, OutOfRange, Payload, Pid, Refusal};
+use std::error::Error;
+use std::fmt;
 
-impl AddressWidth {
-    // The width of so many bytes: there are 3, 4 or 5.
-    pub fn new(bytes: usize) -> Option<AddressWidth>
-        ensures { MatchOption result ((3 ≤ bytes → bytes ≤ 5 → ⊥)) (λ w. width_of w ≡ bytes) }
-    {
+impl TryFrom<usize> for AddressWidth {
+    type Error = OutOfRange;
+
+    ghost try_from_gives = { WidthOrNone };
+
+    fn try_from(bytes: usize) -> Result<Self, OutOfRange> {
         match bytes {
-            3 => Some(AddressWidth::Three),
-            4 => Some(AddressWidth::Four),
-            5 => Some(AddressWidth::Five),
-            _ => None,
+            3 => Ok(AddressWidth::Three),
+            4 => Ok(AddressWidth::Four),
+            5 => Ok(AddressWidth::Five),
+            _ => Err(OutOfRange),
         }
     }
+}
 
+impl AddressWidth {
+    // A named method and no From: three facts of it are of use, each under its name.
     pub fn bytes(self) -> usize
         ensures value { result ≡ width_of self }
         ensures low { 3 ≤ result }
         ensures high { result ≤ 5 }
     {
-        match self {
-            AddressWidth::Three => 3,
-            AddressWidth::Four => 4,
-            AddressWidth::Five => 5,
-        }
+        self as usize
     }
 }
 
@@ -38,9 +42,7 @@ impl Address {
     pub fn new(given: &[u8]) -> Option<Address>
         ensures { MatchOption result ((3 ≤ length given.now → length given.now ≤ 5 → ⊥)) (λ a. address_bytes a ≡ given.now) }
     {
-        let Some(wide) = AddressWidth::new(given.len()) else {
-            return None;
-        };
+        let wide = AddressWidth::try_from(given.len()).ok()?;
         let mut held = [0; 5];
         held[0..wide.bytes()].copy_from_slice(given);
         Some(Address { held, wide })
@@ -66,39 +68,46 @@ impl Address {
         known_bytes(&self.held[0..self.wide.bytes()]);
         self.wide
     }
+}
 
-    // Whether two addresses are of the same bytes.
-    pub fn same(&self, other: &Address) -> bool
-        ensures { result ≡ bytes_eq (address_bytes self.now) (address_bytes other.now) }
-    {
+// Two addresses are equal by their bytes in use, whatever stands behind them.
+impl PartialEq for Address {
+    ghost eq = { λ a b. bytes_eq (address_bytes a) (address_bytes b) };
+
+    ghost laws = { on_per address_bytes (partial_equiv_from_equiv nat_list_eq_equiv) };
+
+    fn eq(&self, other: &Address) -> bool {
         self.bytes() == other.bytes()
     }
 }
 
-impl Pid {
-    // A packet identity is below 4.
-    pub fn new(number: u8) -> Option<Pid>
-        ensures { MatchOption result (4 ≤ number) (λ p. pid_number p ≡ number) }
-    {
+impl Eq for Address {
+    ghost laws = { on_equiv address_bytes nat_list_eq_equiv };
+}
+
+impl TryFrom<u8> for Pid {
+    type Error = OutOfRange;
+
+    ghost try_from_gives = { PidOrNone };
+
+    fn try_from(number: u8) -> Result<Self, OutOfRange> {
         match number {
-            0 => Some(Pid::Zero),
-            1 => Some(Pid::One),
-            2 => Some(Pid::Two),
-            3 => Some(Pid::Three),
-            _ => None,
+            0 => Ok(Pid::Zero),
+            1 => Ok(Pid::One),
+            2 => Ok(Pid::Two),
+            3 => Ok(Pid::Three),
+            _ => Err(OutOfRange),
         }
     }
+}
 
+impl Pid {
+    // A named method and no From: both facts of it are of use, each under its name.
     pub fn number(self) -> u8
         ensures value { result ≡ pid_number self }
         ensures below { result < 4 }
     {
-        match self {
-            Pid::Zero => 0,
-            Pid::One => 1,
-            Pid::Two => 2,
-            Pid::Three => 3,
-        }
+        self as u8
     }
 
     // The packet identity of the next payload: one more, modulo 4.
@@ -158,6 +167,18 @@ impl Refusal {
         }
     }
 }
+
+impl fmt::Display for Refusal {
+    ghost output = { λ refusal. Some (refusal_reason refusal) };
+
+    fn fmt<W: fmt::Write>(&self, f: &mut fmt::Formatter<W>) -> fmt::Result {
+        f.write_str(match self {
+            Refusal::FrameBytes => "bits beyond the frame's bytes",
+        })
+    }
+}
+
+impl Error for Refusal {}
 
 // Nothing is done: the contract says what the types of the fields keep.
 pub(crate) fn known_fields(fields: &Fields)

@@ -27,8 +27,8 @@ fn put_covered(fields: &Fields, frame: &mut [u8]) -> usize
     put_bits(frame, 0, preamble, 8);
     put_octets(frame, 8, high_first);
     put_bits(frame, mid, len as u16, 6);
-    put_bits(frame, mid + 6, fields.pid.number() as u16, 2);
-    put_bits(frame, mid + 8, fields.no_ack as u16, 1);
+    put_bits(frame, mid + 6, u16::from(fields.pid.number()), 2);
+    put_bits(frame, mid + 8, u16::from(fields.no_ack), 1);
     put_octets(frame, mid + 9, &fields.payload.held[0..len]);
     mid + 9 + 8 * len
 }

@@ -32,19 +32,6 @@ fn payload_length(frame: &[u8], count: usize, width: usize, size: usize) -> Opti
     Some(len)
 }
 
-// The packet identity that two bits write.
-fn pid_of(bits: u16) -> Pid
-    requires { bits < 4 }
-    ensures { pid_number result ≡ bits }
-{
-    match bits {
-        0 => Pid::Zero,
-        1 => Pid::One,
-        2 => Pid::Two,
-        _ => Pid::Three,
-    }
-}
-
 // What stands in the places of the fields.
 fn fields_at(frame: &[u8], wide: AddressWidth, len: usize) -> Fields
     requires { (len ≤ 32) × (8 + 8 * width_of wide + 9 + 8 * len ≤ 8 * length frame.now) }
@@ -56,6 +43,7 @@ fn fields_at(frame: &[u8], wide: AddressWidth, len: usize) -> Fields
     let high_first = &mut address[0..width];
     get_octets(frame, 8, high_first);
     high_first.reverse();
+    let pid = Pid::try_from(get_bits(frame, mid + 6, 2) as u8).unwrap();
     let mut payload = [0; 32];
     get_octets(frame, mid + 9, &mut payload[0..len]);
     Fields {
@@ -63,7 +51,7 @@ fn fields_at(frame: &[u8], wide: AddressWidth, len: usize) -> Fields
             held: address,
             wide,
         },
-        pid: pid_of(get_bits(frame, mid + 6, 2)),
+        pid,
         no_ack: bit_at(frame, mid + 8),
         payload: Payload { held: payload, len },
     }

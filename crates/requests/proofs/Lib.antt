@@ -1,4 +1,3 @@
-pub mod Turned
 pub mod Steps
 pub mod UnitLines
 pub mod Grammar

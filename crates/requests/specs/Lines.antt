@@ -83,6 +83,11 @@ abbrev pub or_else : {X : Type 0} → Option X → Cannot → Result X Cannot
 or_else (Some v) e = Ok v
 or_else None e = Err e
 
+-- what post has for a number, unless there is none
+abbrev pub Makes : {X : Type 0} → (ℕ → Option X → Type 0) → Cannot → Option ℕ → Result X Cannot → Type 0
+Makes post e None r = r ≡ Err e
+Makes {X} post e (Some n) r = (made : Option X) × post n made × (r ≡ or_else made e)
+
 -- ---- one word
 
 abbrev pub unit_form_named : List ℕ → Option Form

@@ -2,6 +2,7 @@
 #![tactic(auto)]
 
 mod label;
+mod limits;
 mod lines;
 mod reading;
 mod units;

@@ -9,7 +9,7 @@ use std::alloc::AllocError;
 use words::Unread;
 
 // A kind of check: 8 bits or 16.
-#[derive(Clone, Copy)]
+#[derive(Clone, Copy, Debug, PartialEq, Eq)]
 pub enum Kind {
     Crc8,
     Crc16,
@@ -50,7 +50,7 @@ pub enum UnitLine {
 }
 
 // The lines by their first word.
-#[derive(Clone, Copy)]
+#[derive(Clone, Copy, Debug, PartialEq, Eq)]
 pub enum Form {
     Kind,
     Pack,
@@ -65,7 +65,7 @@ pub enum Form {
 }
 
 // What a word is to be.
-#[derive(Clone, Copy)]
+#[derive(Clone, Copy, Debug, PartialEq, Eq)]
 pub enum Wanted {
     Form,
     Kind,
@@ -81,7 +81,7 @@ pub enum Wanted {
 }
 
 // Why the unit under a label cannot do what a line asks of it.
-#[derive(Clone, Copy)]
+#[derive(Clone, Copy, Debug, PartialEq, Eq)]
 pub enum Lack {
     // there is none
     NoUnit,
@@ -94,7 +94,7 @@ pub enum Lack {
 }
 
 // Why a line cannot be carried out. A word is counted from 1.
-#[derive(Clone, Copy)]
+#[derive(Clone, Copy, Debug, PartialEq, Eq)]
 pub enum Cannot {
     Word { word: usize, wanted: Wanted },
     TooFew(Form),
@@ -104,7 +104,7 @@ pub enum Cannot {
 }
 
 // Why a line goes no further: it cannot be carried out, or there is no memory, which ends the run.
-#[derive(Clone, Copy)]
+#[derive(Clone, Copy, Debug, PartialEq, Eq)]
 pub enum Stop {
     Cannot(Cannot),
     Memory,

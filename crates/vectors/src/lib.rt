@@ -24,7 +24,7 @@ mod tests {
     fn fields_of(case: &Framed) -> Option<Fields> {
         Some(Fields {
             address: Address::new(case.address)?,
-            pid: Pid::new(case.pid)?,
+            pid: Pid::try_from(case.pid).ok()?,
             no_ack: case.no_ack,
             payload: Payload::new(case.payload)?,
         })

@@ -1,79 +1,87 @@
--- One turn of the cut of a line into words. Assumes nothing.
-use Rattle.std.proofs.Common.{◌≡◌, ℕ, ◌+◌, ◌-◌, ◌<◌, ◌≤◌, Bool, true, false, cond, eqb, List, [], ◌∷◌, ◌++◌, length, get_or, take, drop, sym, refl, ap, ◌∙◌, append_assoc, arith, length-drop, eq-eqb, ne_eqb}
-use native.Mathlib.Nat.{sub_self}
-use Rattle.std.proofs.lemmas.List.{take_more, at_drop_more, at_drop_all, get_or-drop}
+-- The words of a line are the parts that are not empty, where it is cut at its blanks as far as a '#'.
+use Rattle.std.proofs.Common.{◌≡◌, ℕ, suc, ◌+◌, ◌<◌, ◌≤◌, Bool, true, false, cond, not, eqb, ltb, List, [], ◌∷◌, ◌++◌, length, take, Option, Some, None, refl, sym, ap, ◌∙◌, append_assoc, arith, ne_eqb}
+use Rattle.std.specs.List.{filter, slice_split, onto_first, position_or_len, before_first}
+use Rattle.std.specs.Option.{unwrap_or}
+use Rattle.std.proofs.lemmas.List.{append-nil}
+use Rattle.std.proofs.lemmas.List.Sums.{prefix_len-le-length}
+use Rattle.std.proofs.lemmas.Bool.{ltb-false}
 use Rattle.words.specs.Split.{blank, ended, words_after}
+
+abbrev pub hash : ℕ → Bool
+hash c = eqb c 35
+
+abbrev pub some : List ℕ → Bool
+some w = not (eqb (length w) 0)
 
 pub ended_some : (w : List ℕ) → 0 < length w → ended w ≡ w ∷ []
 ended_some [] h = absurd (omega arith)
 ended_some (c ∷ w) h = refl
 
-module _ (line : List ℕ) (s i : ℕ) (order : s ≤ i) (within : i < length line) where
-  abbrev pub sofar : List ℕ
-  sofar = take (i - s) (drop s line)
+some_yes : (c : ℕ) (w : List ℕ) → some (c ∷ w) ≡ true
+some_yes c w = ap not (ne_eqb (length (c ∷ w)) 0 (λ e. omega (arith, e)))
 
-  abbrev pub left : List (List ℕ)
-  left = words_after sofar (drop i line)
+far : (b : Bool) (n m : ℕ) → ltb n m ≡ b → n ≤ m → unwrap_or (cond b (Some n) None) m ≡ n
+far true n m e h = refl
+far false n m e h = omega (arith, ltb-false n m e)
 
-  abbrev here : ℕ
-  here = get_or line i 0
+-- where the '#' is looked for from the front
+pub as_far : (line : List ℕ) (r : Option ℕ) → r ≡ cond (ltb (position_or_len hash line) (length line)) (Some (position_or_len hash line)) None → take (unwrap_or r (length line)) line ≡ before_first hash line
+as_far line r e =
+    let n = position_or_len hash line in
+    ap (λ o. take (unwrap_or o (length line)) line) e
+    ∙ ap (λ k. take k line) (far (ltb n (length line)) n (length line) refl (prefix_len-le-length (λ c. not (hash c)) line))
 
-  abbrev rest : List ℕ
-  rest = drop (i + 1) line
+-- a word begun, before the first part
+abbrev onto : List ℕ → List (List ℕ) → List (List ℕ)
+onto w [] = w ∷ []
+onto w (part ∷ parts) = (w ++ part) ∷ parts
 
-  abbrev by : Bool → Bool → List (List ℕ)
-  by hash white = cond hash (ended sofar) (cond white (ended sofar ++ words_after [] rest) (words_after (sofar ++ here ∷ []) rest))
+onto_none : (parts : List (List ℕ)) → filter some (onto [] parts) ≡ filter some parts
+onto_none [] = refl
+onto_none (part ∷ parts) = refl
 
-  opened : left ≡ by (eqb here 35) (blank here)
-  opened = at_drop_more (words_after sofar) line i 0 within
+onto_more : (w : List ℕ) (c : ℕ) (parts : List (List ℕ)) → onto w (onto_first c parts) ≡ onto (w ++ c ∷ []) parts
+onto_more w c [] = refl
+onto_more w c (part ∷ parts) = ap (λ l. l ∷ parts) (sym (append_assoc w (c ∷ []) part))
 
-  pub at_hash : eqb here 35 ≡ true → left ≡ ended sofar
-  at_hash e = opened ∙ ap (λ b. by b (blank here)) e
+closed : (w : List ℕ) (parts : List (List ℕ)) → filter some ((w ++ []) ∷ parts) ≡ ended w ++ filter some parts
+closed [] parts = refl
+closed (c ∷ w) parts =
+    ap (λ l. filter some (l ∷ parts)) (append-nil (c ∷ w)) ∙ ap (λ b. cond b ((c ∷ w) ∷ filter some parts) (filter some parts)) (some_yes c w)
 
-  pub at_blank : eqb here 35 ≡ false → blank here ≡ true → left ≡ ended sofar ++ words_after (take (i + 1 - (i + 1)) (drop (i + 1) line)) rest
-  at_blank e b = opened ∙ ap (λ v. by v (blank here)) e ∙ ap (λ v. by false v) b ∙ ap (λ n. ended sofar ++ words_after (take n (drop (i + 1) line)) rest) (sym (sub_self (i + 1)))
+abbrev kept : List ℕ → List ℕ → List (List ℕ)
+kept w line = filter some (onto w (slice_split blank (before_first hash line)))
 
-  grown : take (i + 1 - s) (drop s line) ≡ sofar ++ here ∷ []
-  grown =
-      let n : i + 1 - s ≡ i - s + 1 = omega arith in
-      let at : s + (i - s) ≡ i = omega arith in
-      ap (λ k. take k (drop s line)) n ∙ take_more (drop s line) (i - s) 0 (omega (arith, length-drop s line))
-      ∙ ap (λ c. sofar ++ c ∷ []) (get_or-drop s line (i - s) 0 ∙ ap (λ k. get_or line k 0) at)
+module _ (w : List ℕ) (c : ℕ) (cs : List ℕ) where
+  abbrev parts : List (List ℕ)
+  parts = slice_split blank (before_first hash cs)
 
-  pub at_other : eqb here 35 ≡ false → blank here ≡ false → left ≡ words_after (take (i + 1 - s) (drop s line)) rest
-  at_other e b = opened ∙ ap (λ v. by v (blank here)) e ∙ ap (λ v. by false v) b ∙ ap (λ w. words_after w rest) (sym grown)
+  abbrev by_hash : Bool → List (List ℕ)
+  by_hash h = filter some (onto w (slice_split blank (take (cond (not h) (1 + position_or_len hash cs) 0) (c ∷ cs))))
 
--- What a turn leaves: the words so far, and where the next one starts.
-pub record Turned (line : List ℕ) (s i : ℕ) (ws : List (List ℕ)) : Type 0 where
-  pub order : s ≤ i
-  pub cut : ws ++ words_after (take (i - s) (drop s line)) (drop i line) ≡ words_after [] line
+  abbrev by_blank : Bool → List (List ℕ)
+  by_blank b = filter some (onto w (cond b ([] ∷ parts) (onto_first c parts)))
 
-module _ (line : List ℕ) (s i : ℕ) (ws : List (List ℕ)) (within : i < length line) (old : Turned line s i ws) where
-  pub end_at_hash : (ws' : List (List ℕ)) → get_or line i 0 ≡ 35 → ws' ≡ ws ++ ended (take (i - s) (drop s line)) → ws' ≡ words_after [] line
-  end_at_hash ws' e new = new ∙ ap (λ l. ws ++ l) (sym (at_hash line s i old.order within (eq-eqb _ _ e))) ∙ old.cut
+  no_hash : by_hash false ≡ by_blank (blank c)
+  no_hash =
+      let more : 1 + position_or_len hash cs ≡ suc (position_or_len hash cs) = omega arith in
+      ap (λ k. filter some (onto w (slice_split blank (take k (c ∷ cs))))) more
 
-  pub after_blank : (s' : ℕ) (ws' : List (List ℕ)) → (get_or line i 0 ≡ 35 → ⊥) → true ≡ blank (get_or line i 0) → s' ≡ i + 1 → ws' ≡ ws ++ ended (take (i - s) (drop s line)) → Turned line s' (i + 1) ws'
-  after_blank s' ws' e b at new = record {
-    order = omega arith;
-    cut =
-        let was = at_blank line s i old.order within (ne_eqb _ _ e) (sym b) in
-        ap (λ t. ws' ++ words_after (take (i + 1 - t) (drop t line)) (drop (i + 1) line)) at
-        ∙ ap (λ l. l ++ words_after (take (i + 1 - (i + 1)) (drop (i + 1) line)) (drop (i + 1) line)) new
-        ∙ append_assoc ws _ _ ∙ ap (λ l. ws ++ l) (sym was) ∙ old.cut;
-  }
+  abbrev after : Bool → Bool → List (List ℕ)
+  after h b = cond h (ended w) (cond b (ended w ++ words_after [] cs) (words_after (w ++ c ∷ []) cs))
 
-  pub after_other : (s' : ℕ) (ws' : List (List ℕ)) → (get_or line i 0 ≡ 35 → ⊥) → false ≡ blank (get_or line i 0) → s' ≡ s → ws' ≡ ws → Turned line s' (i + 1) ws'
-  after_other s' ws' e b at new = record {
-    order = omega (arith, old.order);
-    cut =
-        let was = at_other line s i old.order within (ne_eqb _ _ e) (sym b) in
-        ap (λ t. ws' ++ words_after (take (i + 1 - t) (drop t line)) (drop (i + 1) line)) at
-        ∙ ap (λ l. l ++ words_after (take (i + 1 - s) (drop s line)) (drop (i + 1) line)) new
-        ∙ ap (λ l. ws ++ l) (sym was) ∙ old.cut;
-  }
+  step : (h b : Bool) → hash c ≡ h → blank c ≡ b → ((v : List ℕ) → kept v cs ≡ words_after v cs) → by_hash (hash c) ≡ after (hash c) (blank c)
+  step true b is_hash is_blank rest = ap by_hash is_hash ∙ closed w [] ∙ append-nil (ended w) ∙ sym (ap (λ h. after h (blank c)) is_hash)
+  step false true is_hash is_blank rest =
+      ap by_hash is_hash ∙ no_hash ∙ ap by_blank is_blank ∙ closed w parts ∙ ap (λ l. ended w ++ l) (sym (onto_none parts) ∙ rest [])
+      ∙ sym (ap (λ h. after h (blank c)) is_hash ∙ ap (after false) is_blank)
+  step false false is_hash is_blank rest =
+      ap by_hash is_hash ∙ no_hash ∙ ap by_blank is_blank ∙ ap (filter some) (onto_more w c parts) ∙ rest (w ++ c ∷ [])
+      ∙ sym (ap (λ h. after h (blank c)) is_hash ∙ ap (after false) is_blank)
 
-pub at_end : (line : List ℕ) (s i : ℕ) (ws ws' : List (List ℕ)) → length line ≤ i → i ≤ length line → Turned line s i ws → ws' ≡ ws ++ ended (take (length line - s) (drop s line)) → ws' ≡ words_after [] line
-at_end line s i ws ws' past upto old new =
-    let same : i ≡ length line = omega arith in
-    let none = at_drop_all (words_after (take (i - s) (drop s line))) line i past in
-    new ∙ ap (λ n. ws ++ ended (take (n - s) (drop s line))) (sym same) ∙ ap (λ l. ws ++ l) (sym none) ∙ old.cut
+kept_are : (line w : List ℕ) → kept w line ≡ words_after w line
+kept_are [] w = closed w [] ∙ append-nil (ended w)
+kept_are (c ∷ cs) w = step w c cs (hash c) (blank c) refl refl (kept_are cs)
+
+pub parts_are : (line : List ℕ) → filter some (slice_split blank (before_first hash line)) ≡ words_after [] line
+parts_are line = sym (onto_none (slice_split blank (before_first hash line))) ∙ kept_are line []

@@ -2,7 +2,7 @@
 ghost use Rattle.std.specs.Prelude.{◌≡◌, ℕ, ◌<◌, reverse, drop, IfOk, Some, vec_items};
 ghost use Rattle.std.specs.Option.{option_map};
 ghost use Rattle.words.specs.declared.reading.Unread.TheVariants.{Memory};
-ghost use Rattle.words.specs.Numbers.{hex_digit, pair_of, byte_of, together_of, one_more, decimal_of};
+ghost use Rattle.words.specs.Numbers.{hex_digit, byte_of, together_of, one_more, decimal_of};
 ghost use Rattle.words.specs.Split.{texts};
 ghost use Rattle.words.specs.Bytes.{bytes_from, ReadsBytes};
 
@@ -20,23 +20,14 @@ fn digit_value(c: u8) -> Option<u8>
     }
 }
 
-fn pair(high: u8, low: u8) -> Option<u8>
-    ensures { result ≡ pair_of high low }
-{
-    match (digit_value(high), digit_value(low)) {
-        (Some(h), Some(l)) => Some(16 * h + l),
-        _ => None,
-    }
-}
-
 // A byte: two hexadecimal digits in either case.
 pub fn byte(word: &[u8]) -> Option<u8>
     ensures { result ≡ byte_of word.now }
 {
-    match word {
-        [high, low] => pair(*high, *low),
-        _ => None,
-    }
+    let &[high, low] = word else {
+        return None;
+    };
+    Some(16 * digit_value(high)? + digit_value(low)?)
 }
 
 // Bytes written together, two hexadecimal digits for each.
@@ -44,22 +35,17 @@ pub fn together(heap: Global, word: &[u8]) -> Result<Option<Vec<u8>>, AllocError
     ensures { IfOk result (λ o. option_map vec_items o ≡ together_of word.now) }
 {
     let mut out = Vec::new(heap);
-    let pairs = word.len() / 2;
-    for i in 0..pairs {
-        match pair(word[2 * i], word[2 * i + 1]) {
-            Some(b) => out.push(b)?,
-            None => return Ok(None),
-        }
+    for digits in word.chunks(2) {
+        let Some(b) = byte(digits) else {
+            return Ok(None);
+        };
+        out.push(b)?;
     }
-    if word.len() % 2 == 0 {
-        Ok(Some(out))
-    } else {
-        Ok(None)
-    }
+    Ok(Some(out))
 }
 
 // Why words are not read as bytes: one of them, counted from 1, is no byte, or there is no memory.
-#[derive(Clone, Copy)]
+#[derive(Clone, Copy, Debug, PartialEq, Eq)]
 pub enum Unread {
     NoByte { word: usize },
     Memory,
@@ -86,11 +72,9 @@ pub fn bytes(heap: Global, words: &[&[u8]], from: usize) -> Result<Vec<u8>, Unre
     ensures { ReadsBytes result (bytes_from from (drop from (texts words.now))) }
 {
     let mut out = Vec::new(heap);
-    for at in from..words.len() {
-        match byte(words[at]) {
-            Some(b) => out.push(b)?,
-            None => return Err(Unread::NoByte { word: at + 1 }),
-        }
+    for (at, word) in words.iter().enumerate().skip(from) {
+        let b = byte(word).ok_or(Unread::NoByte { word: at + 1 })?;
+        out.push(b)?;
     }
     Ok(out)
 }
@@ -98,10 +82,10 @@ pub fn bytes(heap: Global, words: &[&[u8]], from: usize) -> Result<Vec<u8>, Unre
 fn one_more(n: u64, c: u8) -> Option<u64>
     ensures { result ≡ one_more n c }
 {
-    if c < b'0' || c > b'9' {
-        return None;
+    match c {
+        b'0'..=b'9' => n.checked_mul(10)?.checked_add(u64::from(c - b'0')),
+        _ => None,
     }
-    n.checked_mul(10)?.checked_add(u64::from(c - b'0'))
 }
 
 // A decimal number below 2^64.

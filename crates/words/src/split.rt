@@ -1,7 +1,8 @@
 // A line, cut into words.
-ghost use Rattle.std.specs.Prelude.{◌≡◌, ◌-◌, ◌≤◌, [], ◌++◌, length, IfOk, OnOk, slice_index_or, slice_range};
+ghost use Rattle.std.specs.Prelude.{◌≡◌, [], length, IfOk, ◌==◌, slice_index_or};
+ghost use Rattle.std.specs.List.{before_first};
 ghost use Rattle.std.specs.Str.{bytes_eq};
-ghost use Rattle.words.specs.Split.{blank, ended, texts, words_of, Cut};
+ghost use Rattle.words.specs.Split.{blank, texts, words_of, Cut};
 
 use std::alloc::{AllocError, Global};
 
@@ -11,21 +12,12 @@ fn is_blank(c: u8) -> bool
     matches!(c, b' ' | b'\t' | b'\r' | b'\n')
 }
 
-// Adds the bytes from start to end as a word, if there are any.
-fn close<'a>(
-    out: &mut Vec<&'a [u8]>,
-    line: &'a [u8],
-    start: usize,
-    end: usize,
-) -> Result<(), AllocError>
-    requires order { start ≤ end }
-    requires within { end ≤ length line.now }
-    ensures { OnOk result (texts out.new.items ≡ texts out.old.items ++ ended (slice_range line.now start end)) }
+// A line as far as a '#'.
+fn said(line: &[u8]) -> &[u8]
+    ensures { result.now ≡ before_first (λ c. c == 35) line.now }
 {
-    if start < end {
-        out.push(&line[start..end])?;
-    }
-    Ok(())
+    let end = line.iter().position(|c| *c == b'#').unwrap_or(line.len());
+    &line[..end]
 }
 
 // The words of a line: what stands between blanks, as far as a '#'. They borrow the line.
@@ -33,20 +25,10 @@ pub fn words<'a>(heap: Global, line: &'a [u8]) -> Result<Vec<&'a [u8]>, AllocErr
     ensures value { IfOk result (λ v. texts v.items ≡ words_of line.now) }
     ensures cut { IfOk result (λ v. Cut line.now (texts v.items)) }
 {
-    let mut out = Vec::new(heap);
-    let mut start = 0;
-    for (i, c) in line.iter().enumerate() {
-        if *c == b'#' {
-            close(&mut out, line, start, i)?;
-            return Ok(out);
-        }
-        if is_blank(*c) {
-            close(&mut out, line, start, i)?;
-            start = i + 1;
-        }
-    }
-    close(&mut out, line, start, line.len())?;
-    Ok(out)
+    said(line)
+        .split(|c| is_blank(*c))
+        .filter(|word| !word.is_empty())
+        .collect(heap)
 }
 
 // How many words there are.
@@ -60,7 +42,7 @@ pub fn count(given: &[&[u8]]) -> usize
 pub fn word<'a>(words: &[&'a [u8]], at: usize) -> &'a [u8]
     ensures { result.now ≡ slice_index_or (texts words.now) at [] }
 {
-    if at < words.len() { words[at] } else { b"" }
+    words.get(at).copied().unwrap_or(b"")
 }
 
 // Whether the word is this text.

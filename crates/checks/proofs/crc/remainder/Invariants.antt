@@ -1,9 +1,10 @@
-use Rattle.std.proofs.Common.{◌≡◌, take}
+use Rattle.std.proofs.Common.{◌≡◌, ◌-◌, ◌*◌, take}
 use Rattle.checks.specs.Bits.{bits}
 use Rattle.checks.specs.Crc.{run}
 use Rattle.checks.proofs.crc.remainder.Given as goal
 
-abbrev pub invariant-loop-i : goal.invariant-loop-i
-invariant-loop-i g l =
-    g.R.Register.held l.register
-    ≡ run g.R.Register.wide (g.R.Register.held l.polynomial) (g.R.Register.held l.initial.register) (take l.i (bits l.bytes))
+-- what is taken so far, and how many bits are left to take
+abbrev pub invariant-loop-byte : goal.invariant-loop-byte
+invariant-loop-byte g l =
+    (l.register ≡ run g.P.Parameters.WIDTH g.P.Parameters.POLYNOMIAL g.P.Parameters.START (take (l.n - l.left) (bits l.bytes)))
+    × (l.left ≡ l.n - 8 * l.byte-index)

@@ -2,8 +2,8 @@ use Rattle.frames.specs.Calls.{packet_of, width_of}
 use Rattle.frames.proofs.Back.{echoes}
 use Rattle.frames.proofs.laws.read_back.Goals as goal
 
-pub returns-in-Ok : goal.returns-in-Ok
-returns-in-Ok g c =
-    let p = c.in-Ok.ensures.packed in
+pub returns : goal.returns
+returns g c =
+    let p = c.in_ok-count.ensures.packed in
     echoes g.C.Check.meaning g.C.Check.width g.met.C.Check.below (width_of c.args.fields.now.address.wide) (packet_of c.args.fields.now)
-    c.args.frame.now c.pack.new.frame c.in-Ok.count c.read.result c.pack.ensures.sound p.0 p.1 p.2 c.read.ensures.value
+    c.args.frame.now c.pack.new.frame c.in_ok-count.count c.read.result c.pack.ensures.sound p.0 p.1 p.2 c.read.ensures.value

@@ -36,7 +36,7 @@ returns c =
       count = omega (arith, length_covered s);
       small = omega arith;
       bits =
-          put_all s width len _ _ hs ps (bits c.args.frame.now) _ _ _ _ _ _ lh lp eh ep c.number.ensures.value c.put_bits.ensures c.put_octets.ensures
+          put_all s width len _ _ _ hs ps (bits c.args.frame.now) _ _ _ _ _ _ lh lp eh ep (c.from.ensures ∙ c.number.ensures.value) c.from-2.ensures c.put_bits.ensures c.put_octets.ensures
           c.put_bits-2.ensures c.put_bits-3.ensures c.put_bits-4.ensures c.put_octets-2.ensures
           ∙ ap (λ (x : ℕ). paste (bits c.args.frame.now) 0 (word 8 x ++ covered s) (8 + 8 * width + 9 + 8 * len)) e;
     }

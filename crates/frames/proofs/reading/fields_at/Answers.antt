@@ -1,8 +1,8 @@
-use Rattle.std.proofs.Common.{◌≡◌, ℕ, ◌+◌, ◌-◌, ◌*◌, false, List, reverse, length, get_or, take, drop, replicate, ap, ◌∙◌, ap₂, arith}
+use Rattle.std.proofs.Common.{◌≡◌, ℕ, ◌+◌, ◌-◌, ◌*◌, false, List, reverse, length, get_or, take, drop, replicate, ap, ◌∙◌, subst, ap₂, arith}
 use Rattle.std.proofs.lemmas.List.{take_at, length-take-le}
 use Rattle.checks.specs.Bits.{bits}
 use Rattle.frames.specs.Octets.{number, octets}
-use Rattle.frames.specs.Calls.{width_of}
+use Rattle.frames.specs.Calls.{width_of, pid_number, PidOrNone}
 use Rattle.frames.proofs.Octets.{length_octets}
 use Rattle.frames.proofs.Parse.{same}
 use Rattle.frames.proofs.reading.fields_at.Goals as goal
@@ -20,8 +20,10 @@ returns c =
     c.reverse.ensures.after ∙ ap reverse (c.get_octets.ensures ∙ ap (λ (n : ℕ). octets n (drop 8 b)) lw) in
     let ep : c.get_octets-2.new.out ≡ octets len (drop (8 + 8 * width + 9) b) =
     c.get_octets-2.ensures ∙ ap₂ (λ (n v : ℕ). octets n (drop (8 + 8 * v + 9) b)) ll is in
+    let pid : pid_number c.unwrap-pid.result ≡ c.get_bits.result =
+    subst (PidOrNone c.get_bits.result) c.unwrap-pid.ensures c.try_from.ensures in
     same
     (take_at c.reverse.new.self _ width (omega (arith, lw)) ∙ ea)
-    (c.pid_of.ensures ∙ c.get_bits.ensures.value ∙ ap (λ (v : ℕ). number (take 2 (drop (8 + 8 * v + 6) b))) is)
+    (pid ∙ c.get_bits.ensures.value ∙ ap (λ (v : ℕ). number (take 2 (drop (8 + 8 * v + 6) b))) is)
     (c.bit_at.ensures ∙ ap (λ (v : ℕ). get_or b (8 + 8 * v + 8) false) is)
     (take_at c.get_octets-2.new.out _ len (omega (arith, ap length ep, length_octets len (drop (8 + 8 * width + 9) b))) ∙ ep)

@@ -1,19 +1,19 @@
-use Rattle.std.proofs.Common.{vec_items, ap, ◌∙◌, arith}
-use Rattle.words.specs.Split.{texts}
+use Rattle.std.proofs.Common.{◌≡◌, vec_items, ◌∙◌, ap, rules, tests}
+use Rattle.std.specs.List.{filter, slice_split}
+use Rattle.std.proofs.lemmas.Result.{IfOk-weaker}
+use Rattle.std.proofs.lemmas.Iterator.Consumers.{YieldsList-at, YieldsList-from_filter, map_from_collect}
+use Rattle.std.proofs.lemmas.Iterator.Splits.{YieldsList-from_slice_split}
+use Rattle.words.specs.Split.{blank, texts, words_of, Cut}
+use Rattle.words.proofs.Cuts.{some, parts_are}
 use Rattle.words.proofs.Grammar.{cut}
-use Rattle.words.proofs.Cuts.{end_at_hash, after_blank, after_other, at_end}
 use Rattle.words.proofs.split.words.Goals as goal
-use Rattle.words.proofs.split.words.Goals.{then-is_blank+in_ok-close-2, else-is_blank}
-
-pub returns-then-c-eq35 : goal.returns-then-c-eq35
-returns-then-c-eq35 c = let value = end_at_hash _ _ _ _ c.loop-i-test.true c.loop-i.invariant _ c.if-c-eq35.true c.in_ok-close.ensures in record { value = value; cut = cut c.args.line.now _ value }
-
-pub loop-i-preserved : goal.loop-i-preserved
-loop-i-preserved c =
-    elim c.if-is_blank.branch [
-      | then-is_blank+in_ok-close-2 w ↦ after_blank _ _ _ _ c.loop-i-test.true c.loop-i.invariant _ _ c.if-c-eq35.false w.if-is_blank.ensures w.start-is (ap (λ v. texts (vec_items v)) w.out-is ∙ w.in_ok-close-2.ensures)
-      | else-is_blank w ↦ after_other _ _ _ _ c.loop-i-test.true c.loop-i.invariant _ _ c.if-c-eq35.false w.if-is_blank.ensures w.start-is (ap (λ v. texts (vec_items v)) w.out-is)
-    ]
 
 pub returns : goal.returns
-returns c = let value = at_end _ _ _ _ _ c.loop-i-test.false (omega arith) c.loop-i.invariant c.in_ok-close-3.ensures in record { value = value; cut = cut c.args.line.now _ value }
+returns c =
+    let line = c.args.line.now in
+    let parts = map_from_collect _ c.collect.ensures.ran (YieldsList-from_filter _ some (YieldsList-at c.filter.ensures.source (YieldsList-from_slice_split _ blank c.said.result.now c.split.ensures.rest c.split.ensures.done c.split.ensures.closure (λ x b q k. search (rules, tests)))) c.filter.ensures.closure (λ x b q k. search (rules, tests))) in
+    let are = ap (λ l. filter some (slice_split blank l)) c.said.ensures ∙ parts_are line in
+    record {
+      value = IfOk-weaker c.collect.result (λ v. texts (vec_items v) ≡ filter some (slice_split blank c.said.result.now)) (λ v. texts (vec_items v) ≡ words_of line) (λ v e. e ∙ are) parts;
+      cut = IfOk-weaker c.collect.result (λ v. texts (vec_items v) ≡ filter some (slice_split blank c.said.result.now)) (λ v. Cut line (texts (vec_items v))) (λ v e. cut line _ (e ∙ are)) parts;
+    }
