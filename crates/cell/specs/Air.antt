@@ -4,8 +4,6 @@ use Rattle.checks.specs.Bits.{word, bits}
 use Rattle.frames.specs.Packet.{buffer_after}
 use Rattle.frames.specs.Damage.{changed}
 use Rattle.cell.specs.declared.air.Frame.{Frame}
-use Rattle.cell.specs.declared.air.Air.{Air}
-use Rattle.cell.specs.declared.air.Air.TheVariants.{Empty, Holds}
 use Rattle.cell.specs.declared.air.Fate.{Fate}
 use Rattle.cell.specs.declared.air.Fate.TheVariants.{Lost, Heard, HeardTwice, Changed}
 
@@ -20,8 +18,8 @@ abbrev pub bits_on : Frame → List Bool
 bits_on x = take x.count (bits x.bytes)
 
 -- what is on the air after a sending or an answer: no bits are no frame
-abbrev pub air_of : ℕ → List Bool → Air
-air_of from xs = cond (length xs == 0) Empty (Holds (frame_of from xs))
+abbrev pub air_of : ℕ → List Bool → Option Frame
+air_of from xs = cond (length xs == 0) None (Some (frame_of from xs))
 
 -- ---- fates
 

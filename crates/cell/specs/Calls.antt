@@ -8,8 +8,6 @@ use Rattle.unit.specs.Commanding.{command_answer, command_after, command_buffer}
 use Rattle.unit.specs.Ticking.{bits_of, sent, tick_refusal, tick_after, tick_answer, ce_answer, ce_after}
 use Rattle.unit.specs.Hearing.{heard_bits, hear_refusal}
 use Rattle.cell.specs.declared.air.Frame.{Frame}
-use Rattle.cell.specs.declared.air.Air.{Air}
-use Rattle.cell.specs.declared.air.Air.TheVariants.{Empty, Holds}
 use Rattle.cell.specs.declared.air.Fate.{Fate}
 use Rattle.cell.specs.declared.air.Fate.TheVariants.{Lost, Heard, HeardTwice, Changed}
 use Rattle.cell.specs.declared.parts.Inside.{Inside}
@@ -27,7 +25,7 @@ unit_at c u = slice_index_or c.places.at u None
 abbrev pub with_places : Inside → List (Option State) → Inside
 with_places c us = record { places = record { at = us }; air = c.air }
 
-abbrev pub with_air : Inside → Air → Inside
+abbrev pub with_air : Inside → Option Frame → Inside
 with_air c a = record { places = c.places; air = a }
 
 abbrev pub with_unit : Inside → ℕ → State → Inside
@@ -82,10 +80,10 @@ done_if (Ok x) = Ok tt
 done_if (Err e) = Err e
 
 module _ (w : ℕ) (f : List Bool → ℕ) where
-  abbrev pub tick_result_by : Option State → Air → ℕ → Result Unit Refusal
+  abbrev pub tick_result_by : Option State → Option Frame → ℕ → Result Unit Refusal
   tick_result_by None a u = no_such u
-  tick_result_by (Some s) Empty u = done_if (of_the_unit u (tick_answer w f s 42))
-  tick_result_by (Some s) (Holds x) u = Err (refusal_of u AirHoldsFrame)
+  tick_result_by (Some s) None u = done_if (of_the_unit u (tick_answer w f s 42))
+  tick_result_by (Some s) (Some x) u = Err (refusal_of u AirHoldsFrame)
 
   abbrev pub tick_result : Inside → ℕ → Result Unit Refusal
   tick_result c u = tick_result_by (unit_at c u) c.air u
@@ -94,19 +92,19 @@ module _ (w : ℕ) (f : List Bool → ℕ) where
   abbrev pub tick_bits : State → List Bool
   tick_bits s = kept_or (tick_refusal s 42) [] (bits_of w f (sent s))
 
-  abbrev pub ticked_by : Option State → Air → Inside → ℕ → Inside
+  abbrev pub ticked_by : Option State → Option Frame → Inside → ℕ → Inside
   ticked_by None a c u = c
-  ticked_by (Some s) Empty c u = with_air (with_unit c u (tick_after s 42)) (air_of u (tick_bits s))
-  ticked_by (Some s) (Holds x) c u = c
+  ticked_by (Some s) None c u = with_air (with_unit c u (tick_after s 42)) (air_of u (tick_bits s))
+  ticked_by (Some s) (Some x) c u = c
 
   abbrev pub ticked : Inside → ℕ → Inside
   ticked c u = ticked_by (unit_at c u) c.air c u
 
   -- ---- the frame on the air is carried
 
-  abbrev pub carry_result_by : Air → ℕ → ℕ → ℕ → Result Unit Refusal
-  carry_result_by Empty number start pattern = Err (refusal_of 0 AirEmpty)
-  carry_result_by (Holds x) number start pattern =
+  abbrev pub carry_result_by : Option Frame → ℕ → ℕ → ℕ → Result Unit Refusal
+  carry_result_by None number start pattern = Err (refusal_of 0 AirEmpty)
+  carry_result_by (Some x) number start pattern =
       cond (fate_allowed w x.count (fate_of number start pattern)) (Ok tt) (Err (refusal_of 0 FateNotAllowed))
 
   abbrev pub carry_result : Inside → ℕ → ℕ → ℕ → Result Unit Refusal
@@ -140,7 +138,7 @@ module _ (w : ℕ) (f : List Bool → ℕ) where
   heard_once c x xs = with_air (with_places c (heard_by_all x xs c.places.at)) (air_of 0 (answer_of x xs c.places.at))
 
   abbrev pub carried_so : Fate → Inside → Frame → Inside
-  carried_so Lost c x = with_air c Empty
+  carried_so Lost c x = with_air c None
   carried_so Heard c x = heard_once c x (bits_on x)
   carried_so HeardTwice c x = heard_once (heard_once c x (bits_on x)) x (bits_on x)
   carried_so (Changed start pattern) c x = heard_once c x (fated (Changed start pattern) (bits_on x))
@@ -150,9 +148,9 @@ module _ (w : ℕ) (f : List Bool → ℕ) where
   carried_if true None c x = c
   carried_if true (Some fate) c x = carried_so fate c x
 
-  abbrev pub carried_by : Air → Inside → ℕ → ℕ → ℕ → Inside
-  carried_by Empty c number start pattern = c
-  carried_by (Holds x) c number start pattern =
+  abbrev pub carried_by : Option Frame → Inside → ℕ → ℕ → ℕ → Inside
+  carried_by None c number start pattern = c
+  carried_by (Some x) c number start pattern =
       carried_if (fate_allowed w x.count (fate_of number start pattern)) (fate_of number start pattern) c x
 
   abbrev pub carried : Inside → ℕ → ℕ → ℕ → Inside

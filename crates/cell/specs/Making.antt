@@ -18,7 +18,6 @@ use Rattle.unit.specs.Units.{tx_address}
 use Rattle.unit.specs.Commanding.{alike}
 use Rattle.unit.specs.Hearing.{pipe_of}
 use Rattle.unit.specs.Boxing.{boxed}
-use Rattle.cell.specs.declared.air.Air.TheVariants.{Empty}
 use Rattle.cell.specs.declared.parts.Inside.{Inside}
 
 -- ---- units as boxing without a fault gives them
@@ -118,7 +117,7 @@ abbrev pub places_of : List State → List (Option State)
 places_of us = map Some us ++ drop (length us) (replicate 7 None)
 
 abbrev pub made : List State → Inside
-made us = record { places = record { at = places_of us }; air = Empty }
+made us = record { places = record { at = places_of us }; air = None }
 
 -- a newly made cell
 abbrev pub NewlyMade : ℕ → Inside → Type 0

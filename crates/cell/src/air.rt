@@ -1,16 +1,10 @@
-// A frame on the air: the unit that sent it, and its bits, which fill the bytes from the top.
+// A frame on the air: the unit that sent it, and how many bits of its bytes it has, from the top. Nothing here has a heap, so the
+// bytes are those of the longest frame.
 #[derive(Clone, Copy)]
 pub struct Frame {
     pub from: u8,
     pub count: usize,
     pub bytes: [u8; 42],
-}
-
-// What is on the air between the units: at most one frame.
-#[derive(Clone, Copy)]
-pub enum Air {
-    Empty,
-    Holds(Frame),
 }
 
 // What becomes of the frame on the air when it is carried.

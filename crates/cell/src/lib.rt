@@ -5,6 +5,6 @@ mod air;
 mod parts;
 mod refusal;
 
-pub use air::{Air, Fate, Frame};
+pub use air::{Fate, Frame};
 pub use parts::{Cell, Inside, Places};
 pub use refusal::{Cause, Layer, Refusal};

@@ -1,4 +1,4 @@
-use crate::air::Air;
+use crate::air::Frame;
 use std::marker::PhantomData;
 use unit::State;
 
@@ -12,7 +12,8 @@ pub struct Places {
 #[derive(Drop)]
 pub struct Inside {
     pub places: Places,
-    pub air: Air,
+    // at most one frame is on the air between the units
+    pub air: Option<Frame>,
 }
 
 // A cell: one receiver, one to six senders, and the air between them.

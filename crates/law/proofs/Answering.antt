@@ -12,7 +12,6 @@ use Rattle.unit.specs.declared.memory.Memory.{Memory}
 use Rattle.unit.specs.declared.state.State.{State}
 use Rattle.unit.specs.Hearing.{recalled, same_memory}
 use Rattle.cell.specs.declared.air.Frame.{Frame}
-use Rattle.cell.specs.declared.air.Air.TheVariants.{Holds}
 use Rattle.cell.specs.declared.parts.Inside.{Inside}
 use Rattle.cell.specs.Air.{frame_of}
 use Rattle.cell.specs.Making.{pipe_for, same_pipe}
@@ -103,14 +102,14 @@ module _ (w : ℕ) (f : List Bool → ℕ) where
   -- ---- an answer goes on the air
 
   pub answers : (c d : Inside) (h : History) (k n : ℕ) (x : Frame) (r t : State) (rc : Receipts) (bad free : Bool) (o : OnAir w f c d h x k n)
-      → Inv w f c d h → d.air ≡ Holds x → h.aired ≡ Some (record { sender = k; number = n })
+      → Inv w f c d h → d.air ≡ Some x → h.aired ≡ Some (record { sender = k; number = n })
       → unit_at d 0 ≡ Some r → t.registers ≡ r.registers → t.fault ≡ None → length t.memories.at ≡ 6 → entries t.tx ≡ []
       → EntriesOk c h.writes (entries t.rx) rc.unread
       → ((j : ℕ) (a : State) → 1 ≤ j → unit_at c j ≡ Some a → (q : Pipe) → pipe_of_sender c j ≡ Some q
       → MemoryOk f a (h.writes.written j) (last_number j rc.taken) (recalled t.memories q))
       → All (TakenOk c h.writes) rc.taken → OrderOk rc.taken rc.unread rc.reads → rc.reads ≡ h.receipts.reads
       → (In (record { sender = k; number = n }) rc.taken ⊎ SomeOf (Mistaken f c h.writes (record { sender = k; number = n })) rc.answered)
-      → Inv w f c (with_air (with_unit d 0 t) (Holds (frame_of 0 (frame_bits w f (acknowledging (packet_with o.unit n o.bytes))))))
+      → Inv w f c (with_air (with_unit d 0 t) (Some (frame_of 0 (frame_bits w f (acknowledging (packet_with o.unit n o.bytes))))))
       (record {
         writes = h.writes;
         aired = h.aired;
@@ -123,12 +122,12 @@ module _ (w : ℕ) (f : List Bool → ℕ) where
       let other_is : (j : ℕ) (z : State) → 1 ≤ j → unit_at (with_unit d 0 t) j ≡ Some z → unit_at d j ≡ Some z =
       λ j z one there. sym (now_elsewhere d 0 j t (λ v. absurd (omega (arith, v, one)))) ∙ there in
       let only : (v : ℕ) → Pending d.air h.aired v → v ≡ k =
-      λ v p. sym (subst (λ m. Pending (Holds x) m v) aired (subst (λ b. Pending b h.aired v) air p)) in
-      let pending : Pending (Holds y) h.aired k = subst (λ m. Pending (Holds y) m k) (sym aired) refl in
+      λ v p. sym (subst (λ m. Pending (Some x) m v) aired (subst (λ b. Pending b h.aired v) air p)) in
+      let pending : Pending (Some y) h.aired k = subst (λ m. Pending (Some y) m k) (sym aired) refl in
       record {
         like = like_changes c d 0 r t e regs sound long i.like;
         senders = λ j z one there. i.senders j z one (other_is j z one there);
-        tries = λ j z one there. tries_carried w f c d h k bad free (Holds y) h.aired only i (λ s at_k wait. inl pending) j z one (other_is j z one there);
+        tries = λ j z one there. tries_carried w f c d h k bad free (Some y) h.aired only i (λ s at_k wait. inl pending) j z one (other_is j z one there);
         receiver = λ z there. let it : t ≡ z = cc (now_there d 0 r t e, there) in
             subst (λ v. (entries v.tx ≡ []) × EntriesOk c h.writes (entries v.rx) rc.unread) it (tx, rx);
         memories = λ z there j a one at_j q pipe. let it : t ≡ z = cc (now_there d 0 r t e, there) in

@@ -30,7 +30,6 @@ use Rattle.unit.specs.Hearing.{recalled, same_memory, remembered, pipe_of, Outco
 use Rattle.unit.specs.Ticking.{bits_of}
 use Rattle.cell.specs.declared.air.Frame.{Frame}
 use Rattle.cell.specs.declared.parts.Inside.{Inside}
-use Rattle.cell.specs.declared.air.Air.TheVariants.{Empty}
 use Rattle.cell.specs.declared.air.Fate.{Fate}
 use Rattle.cell.specs.declared.air.Fate.TheVariants.{Lost, Heard, HeardTwice, Changed}
 use Rattle.cell.specs.Air.{frame_of, bits_on, air_of, fate_allowed}
@@ -202,7 +201,7 @@ module _ (w : ℕ) (f : List Bool → ℕ) (x : Frame) (within : x.count ≤ 8 *
     no_answer (Some s) h =
         either_way (λ ys. ys ≡ []) (eqb x.from 0) [] (answer_bits w f x xs s) refl (unit_answers s None h.1 (none (address_width s)))
 
-    unheard : (c : Inside) → All (Hearer width) c.places.at → heard_once w f c x xs ≡ with_air c Empty
+    unheard : (c : Inside) → All (Hearer width) c.places.at → heard_once w f c x xs ≡ with_air c None
     unheard c h = ap₂ inside (each_stays 0 c.places.at h) (no_answer (unit_at c 0) (first_hears width c.places.at h))
 
 -- ---- the packet heard twice
@@ -280,7 +279,7 @@ module _ (w : ℕ) (f : List Bool → ℕ) (below : (s : List Bool) → f s < 2 
 
   -- nobody hears the frame, which was spoiled; or each unit but its sender hears the packet, as if once
   abbrev pub Carried : Fate → Type 0
-  Carried fate = ((spoils fate ≡ true) × (carried_so w f fate c frame ≡ with_air c Empty)) ⊎ (carried_so w f fate c frame ≡ hearing w f c from p)
+  Carried fate = ((spoils fate ≡ true) × (carried_so w f fate c frame ≡ with_air c None)) ⊎ (carried_so w f fate c frame ≡ hearing w f c from p)
 
   changes : (start pattern : ℕ) → UnharmedOrDropped w f width p (changed (bits_on frame) start (word 16 pattern)) → Carried (Changed start pattern)
   changes start pattern (inl h) = inr (heard_as (changed (bits_on frame) start (word 16 pattern)) h.1 c hearers)

@@ -22,8 +22,6 @@ use Rattle.unit.specs.Units.{tx_address}
 use Rattle.unit.specs.Ticking.{bits_of}
 use Rattle.unit.specs.Hearing.{pipe_of, Outcome, dropped, is_acknowledgement, heard_by_sender, delivered, hears, address_width}
 use Rattle.cell.specs.declared.air.Frame.{Frame}
-use Rattle.cell.specs.declared.air.Air.{Air}
-use Rattle.cell.specs.declared.air.Air.TheVariants.{Empty, Holds}
 use Rattle.cell.specs.declared.air.Fate.{Fate}
 use Rattle.cell.specs.declared.parts.Inside.{Inside}
 use Rattle.cell.specs.declared.refusal.Cause.TheVariants.{FateNotAllowed}
@@ -143,7 +141,7 @@ module _ (w : ℕ) (f : List Bool → ℕ) where
   -- ---- a payload's frame
 
   module _ (below : (s : List Bool) → f s < 2 ^ w) (shows : PatternShows w f) (c d : Inside) (h : History) (fits : Fits w c) (typed : OfBytesInside c) (i : Inv w f c d h) (fate : Fate)
-      (k n : ℕ) (x : Frame) (o : OnAir w f c d h x k n) (air : d.air ≡ Holds x) (aired : h.aired ≡ Some (record { sender = k; number = n })) where
+      (k n : ℕ) (x : Frame) (o : OnAir w f c d h x k n) (air : d.air ≡ Some x) (aired : h.aired ≡ Some (record { sender = k; number = n })) where
     abbrev its_packet : Packet
     its_packet = packet_with o.unit n o.bytes
 
@@ -151,7 +149,7 @@ module _ (w : ℕ) (f : List Bool → ℕ) where
     its_payload = record { sender = k; number = n }
 
     only_its : (v : ℕ) → Pending d.air h.aired v → v ≡ k
-    only_its v p = sym (subst (λ m. Pending (Holds x) m v) aired (subst (λ b. Pending b h.aired v) air p))
+    only_its v p = sym (subst (λ m. Pending (Some x) m v) aired (subst (λ b. Pending b h.aired v) air p))
 
     -- the sender as it is now
     sender_now : (s : State) × (unit_at d k ≡ Some s) × Known o.unit s
@@ -173,16 +171,16 @@ module _ (w : ℕ) (f : List Bool → ℕ) where
     zero_is_not e = absurd (omega (arith, e, o.sender))
 
     -- nobody heard it
-    unheard : (spoils fate ≡ true) → (free : Bool) → Inv w f c (with_air d Empty) (touching k (spoils fate) free h)
+    unheard : (spoils fate ≡ true) → (free : Bool) → Inv w f c (with_air d None) (touching k (spoils fate) free h)
     unheard bad free = quiet_carry w f c d h k (spoils fate) free only_its i (λ s there wait. inl bad)
 
-    none_shrank : (j : ℕ) → shrank d (with_air d Empty) j ≡ false
-    none_shrank j = same_shrank d (with_air d Empty) j refl
+    none_shrank : (j : ℕ) → shrank d (with_air d None) j ≡ false
+    none_shrank j = same_shrank d (with_air d None) j refl
 
-    payload_lost : (spoils fate ≡ true) → Inv w f c (with_air d Empty) (note_frame false fate d (with_air d Empty) its_payload (note_counting d (with_air d Empty) h))
+    payload_lost : (spoils fate ≡ true) → Inv w f c (with_air d None) (note_frame false fate d (with_air d None) its_payload (note_counting d (with_air d None) h))
     payload_lost bad =
-        subst (λ g. Inv w f c (with_air d Empty) (note_frame false fate d (with_air d Empty) its_payload g)) (sym (none_counted d (with_air d Empty) h none_shrank))
-        (subst (λ g. Inv w f c (with_air d Empty) g)
+        subst (λ g. Inv w f c (with_air d None) (note_frame false fate d (with_air d None) its_payload g)) (sym (none_counted d (with_air d None) h none_shrank))
+        (subst (λ g. Inv w f c (with_air d None) g)
         (sym (none_taken (rx_length (unit_at d 0) - rx_length (unit_at d 0)) its_payload (touching k (spoils fate) (ready d h.writes its_payload) h) (omega arith)))
         (unheard bad (ready d h.writes its_payload)))
 
@@ -261,9 +259,9 @@ module _ (w : ℕ) (f : List Bool → ℕ) where
     abbrev its_answer : Packet
     its_answer = acknowledging its_packet
 
-    answer_lost : (spoils fate ≡ true) → Inv w f c (with_air d Empty) (note_frame true fate d (with_air d Empty) its_payload (note_counting d (with_air d Empty) h))
+    answer_lost : (spoils fate ≡ true) → Inv w f c (with_air d None) (note_frame true fate d (with_air d None) its_payload (note_counting d (with_air d None) h))
     answer_lost bad =
-        subst (λ g. Inv w f c (with_air d Empty) (touching k (spoils fate) true g)) (sym (none_counted d (with_air d Empty) h none_shrank)) (unheard bad true)
+        subst (λ g. Inv w f c (with_air d None) (touching k (spoils fate) true g)) (sym (none_counted d (with_air d None) h none_shrank)) (unheard bad true)
 
     abbrev t_answered : Inside
     t_answered = hearing w f d 0 its_answer
@@ -298,7 +296,7 @@ module _ (w : ℕ) (f : List Bool → ℕ) where
     rest_stays (suc j) other =
         place_same d 0 its_answer (suc j) (λ z s there. deaf s its_answer (f (covered its_answer)) (sends_only (suc j) s (omega arith) there) (not_theirs (suc j) s (omega arith) other there))
 
-    air_silent : t_answered.air ≡ Empty
+    air_silent : t_answered.air ≡ None
     air_silent = ap (λ m. air_of 0 (answer_to w f m 0 its_answer)) receiver_now.1
 
     module _ (s : State) (e : unit_at d k ≡ Some s) (known : Known o.unit s)
@@ -313,7 +311,7 @@ module _ (w : ℕ) (f : List Bool → ℕ) where
       not_awaited : is_waiting s.core.mode ≡ false → Inv w f c t_answered (note_frame true fate d t_answered its_payload (note_counting d t_answered h))
       not_awaited idle_now =
           subst (λ g. Inv w f c t_answered (touching k (spoils fate) true g)) (sym (none_counted d t_answered h (λ j. same_shrank d t_answered j (all_stay j))))
-          (by_places w f c (with_air d Empty) t_answered _ (λ j. sym (all_stay j)) (sym air_silent)
+          (by_places w f c (with_air d None) t_answered _ (λ j. sym (all_stay j)) (sym air_silent)
           (quiet_carry w f c d h k (spoils fate) true only_its i (λ z there wait.
           let same : s ≡ z = cc (e, there) in
           let bad : ◌≡◌ {A = Bool} true false = sym wait ∙ ap (λ (v : State). is_waiting v.core.mode) (sym same) ∙ idle_now in
@@ -325,7 +323,7 @@ module _ (w : ℕ) (f : List Bool → ℕ) where
 
       awaited : is_waiting s.core.mode ≡ true → Inv w f c t_answered (note_frame true fate d t_answered its_payload (note_counting d t_answered h))
       awaited waits =
-          by_places w f c (with_air (with_unit d k (delivered s)) Empty) t_answered _ places (sym air_silent)
+          by_places w f c (with_air (with_unit d k (delivered s)) None) t_answered _ places (sym air_silent)
           (delivers w f c d h k n s (λ j. cond (shrank d t_answered j) (suc (h.writes.gone j)) (h.writes.gone j))
           (λ j. cond (shrank d t_answered j) (record { payload = oldest h.writes j; taken = h.receipts.taken; answered = h.receipts.answered } ∷ h.counted j) (h.counted j))
           (at k (touched (spoils fate) true (cond (shrank d t_answered k) [] (h.trials.exchanges k))) (λ j. cond (shrank d t_answered j) [] (h.trials.exchanges j)))
@@ -380,7 +378,7 @@ module _ (w : ℕ) (f : List Bool → ℕ) where
         subst (λ z. Inv w f c (carried_so w f fate d z) (note_frame (eqb z.from 0) fate d (carried_so w f fate d z) its_payload (note_counting d (carried_so w f fate d z) h))) (sym is)
         (⊎_elim
         (λ lost. subst P (sym lost.1)
-        (subst (λ b. Inv w f c (with_air d Empty) (note_frame b fate d (with_air d Empty) its_payload (note_counting d (with_air d Empty) h))) (sym (ne_eqb k 0 zero_is_not)) (payload_lost lost.0)))
+        (subst (λ b. Inv w f c (with_air d None) (note_frame b fate d (with_air d None) its_payload (note_counting d (with_air d None) h))) (sym (ne_eqb k 0 zero_is_not)) (payload_lost lost.0)))
         (λ heard. subst P (sym heard)
         (subst (λ b. Inv w f c t_heard (note_frame b fate d t_heard its_payload (note_counting d t_heard h))) (sym (ne_eqb k 0 zero_is_not)) (payload_heard settled)))
         (carries w f below shows c d fits i.like k its_packet (valid_packet w c fits typed k n o.unit o.bytes o.there sendable_it.few sendable_it.bytes) fate
@@ -407,7 +405,7 @@ module _ (w : ℕ) (f : List Bool → ℕ) where
       → (number start pattern : ℕ)
       → Inv w f c (carried w f d number start pattern) (note h d (carry number start pattern) (outcome w f d (carry number start pattern)) (carried w f d number start pattern))
   carry_keeps below shows c d h fits typed i number start pattern = by_air d.air refl where
-    by_fate : (x : Frame) → d.air ≡ Holds x → (o : Option Fate) → fate_of number start pattern ≡ o → (b : Bool) → fate_allowed w x.count o ≡ b
+    by_fate : (x : Frame) → d.air ≡ Some x → (o : Option Fate) → fate_of number start pattern ≡ o → (b : Bool) → fate_allowed w x.count o ≡ b
         → Inv w f c (carried_if w f b o d x)
         (note h d (carry number start pattern) (answer_of (cond b (Ok tt) (Err (refusal_of 0 FateNotAllowed)))) (carried_if w f b o d x))
     by_fate x air o is false allowed = i
@@ -418,7 +416,7 @@ module _ (w : ℕ) (f : List Bool → ℕ) where
         (subst (λ a. Inv w f c (carried_so w f fate d x) (note_fate (Some fate) a d (carried_so w f fate d x) h)) (sym air)
         (frame_carried below shows c d h fits typed i fate on.0 on.1 x on.3 air on.2 allowed))
 
-    by_air : (a : Air) → d.air ≡ a → Inv w f c (carried_by w f a d number start pattern)
+    by_air : (a : Option Frame) → d.air ≡ a → Inv w f c (carried_by w f a d number start pattern)
         (note h d (carry number start pattern) (answer_of (carry_result_by w f a number start pattern)) (carried_by w f a d number start pattern))
-    by_air Empty air = i
-    by_air (Holds x) air = by_fate x air (fate_of number start pattern) refl (fate_allowed w x.count (fate_of number start pattern)) refl
+    by_air None air = i
+    by_air (Some x) air = by_fate x air (fate_of number start pattern) refl (fate_allowed w x.count (fate_of number start pattern)) refl

@@ -1,13 +1,12 @@
 -- A carry after which the air is empty and no unit changed; and what every carry needs.
-use Rattle.std.proofs.Common.{◌≡◌, ℕ, suc, ◌≤◌, Bool, true, false, cond, ◌&&◌, ◌||◌, ltb, ◌⊎◌, List, [], ◌∷◌, length, drop, Some, Option, sym, refl, ap, ◌∙◌, subst, inl, inr, ⊎_elim, append-nil, arith, le-ltb}
+use Rattle.std.proofs.Common.{◌≡◌, ℕ, suc, ◌≤◌, Bool, true, false, cond, ◌&&◌, ◌||◌, ltb, ◌⊎◌, List, [], ◌∷◌, length, drop, Some, Option, sym, refl, ap, ◌∙◌, subst, inl, inr, ⊎_elim, append-nil, arith, le-ltb, None}
 use Rattle.std.proofs.Math.Path.{fun_ext}
 use Rattle.modes.specs.declared.parts.Mode.{Mode}
 use Rattle.modes.specs.declared.parts.Mode.TheVariants.{Shutdown, Starting, Standby, IdleTx, Tuning, Rx, Waiting}
 use Rattle.modes.specs.Modes.{is_waiting}
 use Rattle.unit.specs.declared.state.State.{State}
 use Rattle.unit.specs.Units.{retry_of}
-use Rattle.cell.specs.declared.air.Air.{Air}
-use Rattle.cell.specs.declared.air.Air.TheVariants.{Empty, Holds}
+use Rattle.cell.specs.declared.air.Frame.{Frame}
 use Rattle.cell.specs.declared.parts.Inside.{Inside}
 use Rattle.cell.specs.Calls.{unit_at, with_air}
 use Rattle.law.specs.Lists.{All}
@@ -33,9 +32,9 @@ module _ (w : ℕ) (f : List Bool → ℕ) where
     air = subst (λ a. AirOk w f c e h a) air (moved d.air i.air);
     law = i.law;
   } where
-    moved : (a : Air) → AirOk w f c d h a → AirOk w f c e h a
-    moved Empty o = tt
-    moved (Holds x) o = (
+    moved : (a : Option Frame) → AirOk w f c d h a → AirOk w f c e h a
+    moved None o = tt
+    moved (Some x) o = (
       o.0,
       o.1,
       o.2,
@@ -128,7 +127,7 @@ touched_tries (Waiting left) again arc bad free xs P Q why t = record {
 
 module _ (w : ℕ) (f : List Bool → ℕ) where
   -- the exchanges of every sender after the carry of a frame of sender k, or of its answer
-  pub tries_carried : (c d : Inside) (h : History) (k : ℕ) (bad free : Bool) (a : Air) (o : Option Payload)
+  pub tries_carried : (c d : Inside) (h : History) (k : ℕ) (bad free : Bool) (a : Option Frame) (o : Option Payload)
       → ((v : ℕ) → Pending d.air h.aired v → v ≡ k) → Inv w f c d h
       → ((s : State) → unit_at d k ≡ Some s → is_waiting s.core.mode ≡ true → Pending a o k ⊎ ((bad ≡ true) ⊎ (free ≡ false)))
       → (v : ℕ) (s : State) → 1 ≤ v → unit_at d v ≡ Some s
@@ -150,11 +149,11 @@ module _ (w : ℕ) (f : List Bool → ℕ) where
   pub quiet_carry : (c d : Inside) (h : History) (k : ℕ) (bad free : Bool)
       → ((v : ℕ) → Pending d.air h.aired v → v ≡ k) → Inv w f c d h
       → ((s : State) → unit_at d k ≡ Some s → is_waiting s.core.mode ≡ true → (bad ≡ true) ⊎ (free ≡ false))
-      → Inv w f c (with_air d Empty) (touching k bad free h)
+      → Inv w f c (with_air d None) (touching k bad free h)
   quiet_carry c d h k bad free only i why = record {
     like = i.like;
     senders = i.senders;
-    tries = tries_carried c d h k bad free Empty h.aired only i (λ s there wait. inr (why s there wait));
+    tries = tries_carried c d h k bad free None h.aired only i (λ s there wait. inr (why s there wait));
     receiver = i.receiver;
     memories = i.memories;
     taken = i.taken;

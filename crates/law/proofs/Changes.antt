@@ -5,8 +5,6 @@ use Rattle.modes.specs.Modes.{is_waiting}
 use Rattle.unit.specs.declared.state.State.{State}
 use Rattle.unit.specs.Units.{retry_of}
 use Rattle.unit.specs.Hearing.{recalled}
-use Rattle.cell.specs.declared.air.Air.{Air}
-use Rattle.cell.specs.declared.air.Air.TheVariants.{Empty, Holds}
 use Rattle.cell.specs.declared.air.Frame.{Frame}
 use Rattle.cell.specs.declared.parts.Inside.{Inside}
 use Rattle.cell.specs.Calls.{unit_at, with_unit}
@@ -76,9 +74,9 @@ module _ (w : ℕ) (f : List Bool → ℕ) where
       → h.aired ≡ g.aired
       → ((k n : ℕ) → 1 ≤ k → ((s : State) → unit_at d k ≡ Some s → is_waiting s.core.mode ≡ true → h.writes.gone k ≡ n)
       → (s : State) → unit_at e k ≡ Some s → is_waiting s.core.mode ≡ true → g.writes.gone k ≡ n)
-      → (a : Air) → AirOk w f c d h a → AirOk w f c e g a
-  air_changes c d e h g grow taken answered aired aimed Empty o = tt
-  air_changes c d e h g grow taken answered aired aimed (Holds x) o =
+      → (a : Option Frame) → AirOk w f c d h a → AirOk w f c e g a
+  air_changes c d e h g grow taken answered aired aimed None o = tt
+  air_changes c d e h g grow taken answered aired aimed (Some x) o =
       (o.0, o.1, sym aired ∙ o.2, on_air_changes c d e h g grow taken answered aimed x o.0 o.1 o.3)
 
   -- ---- a sender changes, its writes and its exchanges

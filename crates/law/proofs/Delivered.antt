@@ -1,5 +1,5 @@
 -- A sender accepts the acknowledgement of its oldest payload.
-use Rattle.std.proofs.Common.{◌≡◌, ℕ, suc, ◌<◌, ◌≤◌, Bool, true, false, cond, not, ◌&&◌, eqb, ◌⊎◌, List, [], ◌∷◌, length, drop, Some, None, sym, refl, ap, ◌∙◌, subst, inl, inr, ⊎_elim, arith, lt-ltb}
+use Rattle.std.proofs.Common.{◌≡◌, ℕ, suc, ◌<◌, ◌≤◌, Bool, true, false, cond, not, ◌&&◌, eqb, ◌⊎◌, List, [], ◌∷◌, length, drop, Some, None, sym, refl, ap, ◌∙◌, subst, inl, inr, ⊎_elim, arith, lt-ltb, Option}
 use Rattle.std.proofs.lemmas.Bool.{and_parts, not-true, eqb-false}
 use Rattle.queue.specs.Entries.{entries, popped}
 use Rattle.modes.specs.declared.parts.Core.{Core}
@@ -10,8 +10,7 @@ use Rattle.modes.specs.Modes.{is_waiting, resting, acknowledged}
 use Rattle.unit.specs.declared.state.State.{State}
 use Rattle.unit.specs.Units.{retry_of}
 use Rattle.unit.specs.Hearing.{delivered}
-use Rattle.cell.specs.declared.air.Air.{Air}
-use Rattle.cell.specs.declared.air.Air.TheVariants.{Empty, Holds}
+use Rattle.cell.specs.declared.air.Frame.{Frame}
 use Rattle.cell.specs.declared.parts.Inside.{Inside}
 use Rattle.cell.specs.Calls.{unit_at, with_unit, with_air}
 use Rattle.law.specs.Lists.{All, SomeOf, In}
@@ -52,7 +51,7 @@ module _ (w : ℕ) (f : List Bool → ℕ) where
   -- ---- the air falls silent
 
   silence : (c d : Inside) (h : History) → Inv w f c d h
-      → ((v : ℕ) (s : State) → 1 ≤ v → unit_at d v ≡ Some s → is_waiting s.core.mode ≡ true → Pending d.air h.aired v → ⊥) → Inv w f c (with_air d Empty) h
+      → ((v : ℕ) (s : State) → 1 ≤ v → unit_at d v ≡ Some s → is_waiting s.core.mode ≡ true → Pending d.air h.aired v → ⊥) → Inv w f c (with_air d None) h
   silence c d h i none = record {
     like = i.like;
     senders = i.senders;
@@ -100,9 +99,9 @@ module _ (w : ℕ) (f : List Bool → ℕ) where
     g : History
     g = record { writes = h.writes; aired = h.aired; receipts = h.receipts; counted = counted; trials = h.trials }
 
-    same : (a : Air) → AirOk w f c d h a → AirOk w f c d g a
-    same Empty o = tt
-    same (Holds x) o = (
+    same : (a : Option Frame) → AirOk w f c d h a → AirOk w f c d g a
+    same None o = tt
+    same (Some x) o = (
       o.0,
       o.1,
       o.2,
@@ -127,7 +126,7 @@ module _ (w : ℕ) (f : List Bool → ℕ) where
       → gone k ≡ suc (h.writes.gone k) → ((j : ℕ) → (j ≡ k → ⊥) → gone j ≡ h.writes.gone j)
       → counted k ≡ record { payload = oldest h.writes k; taken = h.receipts.taken; answered = h.receipts.answered } ∷ h.counted k → ((j : ℕ) → (j ≡ k → ⊥) → counted j ≡ h.counted j)
       → exchanges k ≡ [] → ((j : ℕ) → (j ≡ k → ⊥) → exchanges j ≡ h.trials.exchanges j)
-      → Inv w f c (with_air (with_unit d k (delivered s)) Empty)
+      → Inv w f c (with_air (with_unit d k (delivered s)) None)
       (record {
         writes = record { written = h.writes.written; gone = gone };
         aired = h.aired;

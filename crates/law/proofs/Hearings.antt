@@ -16,7 +16,6 @@ use Rattle.unit.specs.Entries.{data_of, entry_of}
 use Rattle.unit.specs.Ticking.{bits_of}
 use Rattle.unit.specs.Hearing.{recalled, same_memory, pipe_of, Outcome, dropped, answered, taken, fresh, on_its_pipe, hears}
 use Rattle.cell.specs.declared.air.Frame.{Frame}
-use Rattle.cell.specs.declared.air.Air.TheVariants.{Empty, Holds}
 use Rattle.cell.specs.declared.parts.Inside.{Inside}
 use Rattle.cell.specs.Air.{frame_of, air_of}
 use Rattle.cell.specs.Making.{pipe_for, same_pipe}
@@ -65,7 +64,7 @@ receiver_cases P r p check q b role pipe entry deaf unlike repeat full takes =
     (cond_both (eqb (length (entries r.rx)) 3) _ _ P full (λ room. takes new room)))) unlike)) deaf)
 
 module _ (w : ℕ) (f : List Bool → ℕ) where
-  module _ (c d : Inside) (h : History) (fits : Fits w c) (k n : ℕ) (x : Frame) (o : OnAir w f c d h x k n) (i : Inv w f c d h) (air : d.air ≡ Holds x)
+  module _ (c d : Inside) (h : History) (fits : Fits w c) (k n : ℕ) (x : Frame) (o : OnAir w f c d h x k n) (i : Inv w f c d h) (air : d.air ≡ Some x)
       (aired : h.aired ≡ Some (record { sender = k; number = n })) (r : State) (e : unit_at d 0 ≡ Some r) (sound : r.fault ≡ None) (six : length r.memories.at ≡ 6)
       (q : Pipe) (pipe : pipe_of_sender c k ≡ Some q) (sendable : Sendable o.bytes) (bad free : Bool) where
     abbrev payload : Payload
@@ -76,7 +75,7 @@ module _ (w : ℕ) (f : List Bool → ℕ) where
 
     -- the repeat is answered
     repeats : same_memory (recalled r.memories q) (memory_with f o.unit n o.bytes) ≡ true
-        → Inv w f c (with_air (with_unit d 0 r) (Holds acknowledged_frame)) (answering d (Holds acknowledged_frame) payload (touching k bad free h))
+        → Inv w f c (with_air (with_unit d 0 r) (Some acknowledged_frame)) (answering d (Some acknowledged_frame) payload (touching k bad free h))
     repeats same =
         answers w f c d h k n x r r (record {
           taken = h.receipts.taken;
@@ -90,8 +89,8 @@ module _ (w : ℕ) (f : List Bool → ℕ) where
 
     -- the payload is taken and answered
     takes : Settled (last_number k h.receipts.taken) n → same_memory (recalled r.memories q) (memory_with f o.unit n o.bytes) ≡ false → eqb (length (entries r.rx)) 3 ≡ false
-        → Inv w f c (with_air (with_unit d 0 (taken r q (data_of o.bytes) (memory_with f o.unit n o.bytes))) (Holds acknowledged_frame))
-        (answering d (Holds acknowledged_frame) payload (taking 1 payload (touching k bad free h)))
+        → Inv w f c (with_air (with_unit d 0 (taken r q (data_of o.bytes) (memory_with f o.unit n o.bytes))) (Some acknowledged_frame))
+        (answering d (Some acknowledged_frame) payload (taking 1 payload (touching k bad free h)))
     takes settled new room =
         let t = taken r q (data_of o.bytes) (memory_with f o.unit n o.bytes) in
         let memory = i.memories r e k o.unit o.sender o.there q pipe in
@@ -138,21 +137,21 @@ module _ (w : ℕ) (f : List Bool → ℕ) where
 
     -- only this sender's exchange is pending
     only : (v : ℕ) → Pending d.air h.aired v → v ≡ k
-    only v p = sym (subst (λ m. Pending (Holds x) m v) aired (subst (λ b. Pending b h.aired v) air p))
+    only v p = sym (subst (λ m. Pending (Some x) m v) aired (subst (λ b. Pending b h.aired v) air p))
 
     after_dropped : (bad ≡ true) ⊎ (free ≡ false) → After (dropped r)
     after_dropped why =
-        subst (λ g. Inv w f c (with_air (with_unit d 0 r) Empty) g) (sym (none_taken (length (entries r.rx) - length (entries r.rx)) payload (touching k bad free h) (omega arith)))
-        (by_places w f c (with_air d Empty) (with_air (with_unit d 0 r) Empty) (touching k bad free h) (λ u. sym (same_place d 0 r e u)) refl
+        subst (λ g. Inv w f c (with_air (with_unit d 0 r) None) g) (sym (none_taken (length (entries r.rx) - length (entries r.rx)) payload (touching k bad free h) (omega arith)))
+        (by_places w f c (with_air d None) (with_air (with_unit d 0 r) None) (touching k bad free h) (λ u. sym (same_place d 0 r e u)) refl
         (quiet_carry w f c d h k bad free only i (λ s there wait. why)))
 
-    holds_answer : air_of 0 (bits_of w f (Some (acknowledging (packet_with o.unit n o.bytes)))) ≡ Holds acknowledged_frame
-    holds_answer = ap (λ z. cond z Empty (Holds acknowledged_frame)) (some_bits w f (acknowledging (packet_with o.unit n o.bytes)))
+    holds_answer : air_of 0 (bits_of w f (Some (acknowledging (packet_with o.unit n o.bytes)))) ≡ Some acknowledged_frame
+    holds_answer = ap (λ z. cond z None (Some acknowledged_frame)) (some_bits w f (acknowledging (packet_with o.unit n o.bytes)))
 
     after_repeat : same_memory (recalled r.memories q) (memory_with f o.unit n o.bytes) ≡ true → After (answered r (packet_with o.unit n o.bytes))
     after_repeat same =
         subst (λ a. Inv w f c (with_air (with_unit d 0 r) a) (answering d a payload (taking (length (entries r.rx) - length (entries r.rx)) payload (touching k bad free h)))) (sym holds_answer)
-        (subst (λ g. Inv w f c (with_air (with_unit d 0 r) (Holds acknowledged_frame)) (answering d (Holds acknowledged_frame) payload g))
+        (subst (λ g. Inv w f c (with_air (with_unit d 0 r) (Some acknowledged_frame)) (answering d (Some acknowledged_frame) payload g))
         (sym (none_taken (length (entries r.rx) - length (entries r.rx)) payload (touching k bad free h) (omega arith))) (repeats same))
 
     after_taking : Settled (last_number k h.receipts.taken) n → same_memory (recalled r.memories q) (memory_with f o.unit n o.bytes) ≡ false → eqb (length (entries r.rx)) 3 ≡ false
@@ -162,7 +161,7 @@ module _ (w : ℕ) (f : List Bool → ℕ) where
         let one : length (entries t.rx) - length (entries r.rx) ≡ 1 =
         omega (arith, ap length (pushed_last r.rx (record { pipe = q; «data» = data_of o.bytes }) room), length_push (entries r.rx) (record { pipe = q; «data» = data_of o.bytes })) in
         subst (λ a. Inv w f c (with_air (with_unit d 0 t) a) (answering d a payload (taking (length (entries t.rx) - length (entries r.rx)) payload (touching k bad free h)))) (sym holds_answer)
-        (subst (λ m. Inv w f c (with_air (with_unit d 0 t) (Holds acknowledged_frame)) (answering d (Holds acknowledged_frame) payload (taking m payload (touching k bad free h)))) (sym one)
+        (subst (λ m. Inv w f c (with_air (with_unit d 0 t) (Some acknowledged_frame)) (answering d (Some acknowledged_frame) payload (taking m payload (touching k bad free h)))) (sym one)
         (takes settled new room))
 
     -- with the receiver ready it is answered

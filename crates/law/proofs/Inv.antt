@@ -18,8 +18,6 @@ use Rattle.unit.specs.Entries.{data_of}
 use Rattle.unit.specs.Units.{tx_address, retry_of}
 use Rattle.unit.specs.Hearing.{recalled}
 use Rattle.cell.specs.declared.air.Frame.{Frame}
-use Rattle.cell.specs.declared.air.Air.{Air}
-use Rattle.cell.specs.declared.air.Air.TheVariants.{Empty, Holds}
 use Rattle.cell.specs.declared.parts.Inside.{Inside}
 use Rattle.cell.specs.Air.{frame_of}
 use Rattle.cell.specs.Calls.{unit_at}
@@ -70,10 +68,10 @@ abbrev pub Failed : Exchange → Type 0
 Failed x = (x.spoiled ≡ true) ⊎ (x.ready ≡ false)
 
 -- the frame on the air, or the answer there, is of this sender
-abbrev pub Pending : Air → Option Payload → ℕ → Type 0
-Pending Empty p k = ⊥
-Pending (Holds x) None k = ⊥
-Pending (Holds x) (Some p) k = p.sender ≡ k
+abbrev pub Pending : Option Frame → Option Payload → ℕ → Type 0
+Pending None p k = ⊥
+Pending (Some x) None k = ⊥
+Pending (Some x) (Some p) k = p.sender ≡ k
 
 pub record WaitsOk (again arc : ℕ) (xs : List Exchange) (pending : Type 0) : Type 0 where
   pub count : length xs ≡ suc again
@@ -193,9 +191,9 @@ module _ (w : ℕ) (f : List Bool → ℕ) where
     pub gone : n ≤ h.writes.gone k
     pub kind : PayloadFrame x k n unit bytes h.receipts.taken ⊎ AnswerFrame c h.writes x k n unit bytes h.receipts.taken h.receipts.answered
 
-  abbrev pub AirOk : Inside → Inside → History → Air → Type 0
-  AirOk c d h Empty = Unit {0}
-  AirOk c d h (Holds x) = (k n : ℕ) × (h.aired ≡ Some (record { sender = k; number = n })) × OnAir c d h x k n
+  abbrev pub AirOk : Inside → Inside → History → Option Frame → Type 0
+  AirOk c d h None = Unit {0}
+  AirOk c d h (Some x) = (k n : ℕ) × (h.aired ≡ Some (record { sender = k; number = n })) × OnAir c d h x k n
 
   -- ---- all together: c is the cell as it was made, d the cell now
 

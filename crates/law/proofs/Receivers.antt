@@ -22,8 +22,7 @@ use Rattle.unit.specs.Entries.{data_bytes}
 use Rattle.unit.specs.Units.{with_core, with_rx, retry_of, fault_refusal}
 use Rattle.unit.specs.Commanding.{receiver, tx_full, status, received_bytes, answered, refusals, order_refusal, refusal, done, done_by, answer_of}
 use Rattle.unit.specs.Ticking.{packet, oldest_packet, sent, bits_of, tick_refusal, tick_after}
-use Rattle.cell.specs.declared.air.Air.{Air}
-use Rattle.cell.specs.declared.air.Air.TheVariants.{Empty, Holds}
+use Rattle.cell.specs.declared.air.Frame.{Frame}
 use Rattle.cell.specs.declared.parts.Inside.{Inside}
 use Rattle.cell.specs.declared.refusal.Refusal.{Refusal}
 use Rattle.cell.specs.Refusals.{of_the_unit}
@@ -302,9 +301,9 @@ module _ (w : ℕ) (f : List Bool → ℕ) where
   giving_up_unseen c t h true true i = i
 
   -- with the air as it was, nothing was sent
-  nothing_sent : (a : Air) (k : ℕ) (h : History) → note_sending a a k h ≡ h
-  nothing_sent Empty k h = refl
-  nothing_sent (Holds x) k h = refl
+  nothing_sent : (a : Option Frame) (k : ℕ) (h : History) → note_sending a a k h ≡ h
+  nothing_sent None k h = refl
+  nothing_sent (Some x) k h = refl
 
   tick_noted : (c d t : Inside) (h : History) (o : Result Unit Refusal) → t.air ≡ d.air → Inv w f c t h → Inv w f c t (note h d (tick 0) (answer_outcome o) t)
   tick_noted c d t h (Err x) same i = i
@@ -321,9 +320,9 @@ module _ (w : ℕ) (f : List Bool → ℕ) where
         next : State
         next = tick_after s 42
 
-        by : (a : Air) → d.air ≡ a → Inv w f c (ticked_by w f (Some s) a d 0) (note h d (tick 0) (answer_outcome (tick_result_by w f (Some s) a 0)) (ticked_by w f (Some s) a d 0))
-        by (Holds x) is = i
-        by Empty is =
-            subst (λ a. Inv w f c (with_air (with_unit d 0 next) a) (note h d (tick 0) (answer_outcome (tick_result_by w f (Some s) Empty 0)) (with_air (with_unit d 0 next) a)))
+        by : (a : Option Frame) → d.air ≡ a → Inv w f c (ticked_by w f (Some s) a d 0) (note h d (tick 0) (answer_outcome (tick_result_by w f (Some s) a 0)) (ticked_by w f (Some s) a d 0))
+        by (Some x) is = i
+        by None is =
+            subst (λ a. Inv w f c (with_air (with_unit d 0 next) a) (note h d (tick 0) (answer_outcome (tick_result_by w f (Some s) None 0)) (with_air (with_unit d 0 next) a)))
             (is ∙ sym (ap (air_of 0) (no_bits s (i.receiver s e).0 (tick_refusal s 42))))
-            (tick_noted c d (with_unit d 0 next) h (tick_result_by w f (Some s) Empty 0) refl (core_or_not c d h s e i sound six (tick_refusal s 42) _))
+            (tick_noted c d (with_unit d 0 next) h (tick_result_by w f (Some s) None 0) refl (core_or_not c d h s e i sound six (tick_refusal s 42) _))

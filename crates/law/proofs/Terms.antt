@@ -11,7 +11,6 @@ use Rattle.unit.specs.Units.{tx_address}
 use Rattle.unit.specs.Ticking.{bits_of}
 use Rattle.unit.specs.Hearing.{hears, address_width}
 use Rattle.unit.specs.Boxing.{boxed}
-use Rattle.cell.specs.declared.air.Air.TheVariants.{Empty}
 use Rattle.cell.specs.declared.parts.Inside.{Inside}
 use Rattle.cell.specs.Air.{air_of}
 use Rattle.cell.specs.Making.{pipe_for, same_pipe}
@@ -22,7 +21,7 @@ pub record Fits (w : ℕ) (c : Inside) : Type 0 where
   pub receiver : State
   pub there : unit_at c 0 ≡ Some receiver
   pub receives : is_receiver receiver.registers ≡ true
-  pub quiet : c.air ≡ Empty
+  pub quiet : c.air ≡ None
   pub as_boxed : (u : ℕ) (s : State) → unit_at c u ≡ Some s → s ≡ boxed w s.registers
   pub sound : (u : ℕ) (s : State) → unit_at c u ≡ Some s → s.fault ≡ None
   pub width : (u : ℕ) (s : State) → unit_at c u ≡ Some s → address_width s ≡ address_width receiver

@@ -24,8 +24,6 @@ use Rattle.unit.specs.Entries.{data_of, data_bytes}
 use Rattle.unit.specs.Units.{role_of, retry_of, tx_address, with_core, or_else, payload_waits}
 use Rattle.unit.specs.Ticking.{packet, oldest_packet, sent, bits_of, tick_state, tick_refusal}
 use Rattle.cell.specs.declared.air.Frame.{Frame}
-use Rattle.cell.specs.declared.air.Air.{Air}
-use Rattle.cell.specs.declared.air.Air.TheVariants.{Empty, Holds}
 use Rattle.cell.specs.declared.parts.Inside.{Inside}
 use Rattle.cell.specs.Refusals.{of_the_unit}
 use Rattle.cell.specs.Air.{air_of, frame_of}
@@ -170,9 +168,9 @@ module _ (w : ℕ) (f : List Bool → ℕ) where
       trials = record { exchanges = h.trials.exchanges; failed = at u (xs ∷ h.trials.failed u) h.trials.failed };
     }
 
-    air_same : (a : Air) → AirOk w f c d h a → AirOk w f c d g a
-    air_same Empty o = tt
-    air_same (Holds x) o = (
+    air_same : (a : Option Frame) → AirOk w f c d h a → AirOk w f c d g a
+    air_same None o = tt
+    air_same (Some x) o = (
       o.0,
       o.1,
       o.2,
@@ -191,7 +189,7 @@ module _ (w : ℕ) (f : List Bool → ℕ) where
   -- ---- ticks that send nothing
 
   -- the air stays empty
-  still : (c d : Inside) (g : History) (u : ℕ) (t : State) → d.air ≡ Empty → Inv w f c (with_unit d u t) g → Inv w f c (with_air (with_unit d u t) Empty) g
+  still : (c d : Inside) (g : History) (u : ℕ) (t : State) → d.air ≡ None → Inv w f c (with_unit d u t) g → Inv w f c (with_air (with_unit d u t) None) g
   still c d g u t e i = subst (λ a. Inv w f c (with_air (with_unit d u t) a) g) e i
 
   -- the transaction goes on or begins, with other counts
@@ -207,7 +205,7 @@ module _ (w : ℕ) (f : List Bool → ℕ) where
       (record { within = ok.within; pid = ok.pid; tail = ok.tail; busy = λ b. left; sendable = ok.sendable }) tries (λ wait. (waits wait, refl))
 
   gives_up : (c d : Inside) (h : History) (u : ℕ) (s a : State) (left : ℕ) → 1 ≤ u → unit_at d u ≡ Some s → unit_at c u ≡ Some a → s.registers ≡ a.registers → Inv w f c d h
-      → d.air ≡ Empty → s.fault ≡ None → length s.memories.at ≡ 6 → s.core.mode ≡ Waiting left → ltb s.core.counts.again (retry_of s.registers).count ≡ false
+      → d.air ≡ None → s.fault ≡ None → length s.memories.at ≡ 6 → s.core.mode ≡ Waiting left → ltb s.core.counts.again (retry_of s.registers).count ≡ false
       → Inv w f c (with_unit d u (with_core s (given_up Sender s.core))) (gave_up u h)
   gives_up c d h u s a left pos e there regs i air sound long mode budget =
       let ok = i.senders u s pos e in
@@ -246,9 +244,9 @@ module _ (w : ℕ) (f : List Bool → ℕ) where
 
   sends : (c d : Inside) (h : History) (u : ℕ) (s a : State) (k : Core) (left : ℕ) (b : List ℕ) (bs : List (List ℕ))
       → 1 ≤ u → unit_at d u ≡ Some s → unit_at c u ≡ Some a → s.registers ≡ a.registers → Inv w f c d h
-      → d.air ≡ Empty → s.fault ≡ None → length s.memories.at ≡ 6 → drop (h.writes.gone u) (h.writes.written u) ≡ b ∷ bs → h.writes.gone u < length (h.writes.written u)
+      → d.air ≡ None → s.fault ≡ None → length s.memories.at ≡ 6 → drop (h.writes.gone u) (h.writes.written u) ≡ b ∷ bs → h.writes.gone u < length (h.writes.written u)
       → k.mode ≡ Waiting left → length (h.trials.exchanges u) ≡ k.counts.again → k.counts.again ≤ (retry_of s.registers).count → All Failed (h.trials.exchanges u)
-      → Inv w f c (with_air (with_unit d u (with_core s k)) (Holds (frame_of u (frame_bits w f (packet_with a (h.writes.gone u) b))))) (was_sent u h)
+      → Inv w f c (with_air (with_unit d u (with_core s k)) (Some (frame_of u (frame_bits w f (packet_with a (h.writes.gone u) b))))) (was_sent u h)
   sends c d h u s a k left b bs pos e there regs i air sound long first_is some mode count budget failed =
       let ok = i.senders u s pos e in
       let t = with_core s k in
@@ -259,7 +257,7 @@ module _ (w : ℕ) (f : List Bool → ℕ) where
       let begun_here : at u (begun ∷ h.trials.exchanges u) h.trials.exchanges u ≡ begun ∷ h.trials.exchanges u = at_there u (begun ∷ h.trials.exchanges u) h.trials.exchanges in
       let zero_is : (r : State) → unit_at (with_unit d u t) 0 ≡ Some r → unit_at d 0 ≡ Some r =
       λ r z. sym (now_elsewhere d u 0 t (λ y. absurd (omega (arith, y, pos)))) ∙ z in
-      let pending : Pending (Holds x) (oldest h.writes u) u = subst (λ p. Pending (Holds x) p u) (sym aired) refl in
+      let pending : Pending (Some x) (oldest h.writes u) u = subst (λ p. Pending (Some x) p u) (sym aired) refl in
       record {
         like = like_changes c d u s t e refl sound long i.like;
         senders = λ j y one at_j. now_is (λ v z. 1 ≤ v → SenderOk z (h.writes.written v) (h.writes.gone v)) d u s t e
@@ -267,14 +265,14 @@ module _ (w : ℕ) (f : List Bool → ℕ) where
             (λ v z other at-v first. i.senders v z first at-v) j y at_j one;
         tries = λ j y one at_j. now_is (λ v z. 1 ≤ v
             → TriesOk z.core.mode z.core.counts.again (retry_of z.registers).count (at u (begun ∷ h.trials.exchanges u) h.trials.exchanges v)
-            (Pending (Holds x) (oldest h.writes u) v)) d u s t e
-            (λ _. subst (λ l. TriesOk k.mode k.counts.again (retry_of s.registers).count l (Pending (Holds x) (oldest h.writes u) u)) (sym begun_here)
-            (subst (λ m. TriesOk m k.counts.again (retry_of s.registers).count (begun ∷ h.trials.exchanges u) (Pending (Holds x) (oldest h.writes u) u)) (sym mode)
+            (Pending (Some x) (oldest h.writes u) v)) d u s t e
+            (λ _. subst (λ l. TriesOk k.mode k.counts.again (retry_of s.registers).count l (Pending (Some x) (oldest h.writes u) u)) (sym begun_here)
+            (subst (λ m. TriesOk m k.counts.again (retry_of s.registers).count (begun ∷ h.trials.exchanges u) (Pending (Some x) (oldest h.writes u) u)) (sym mode)
             (record { count = ap suc count; budget = budget; earlier = failed; newest = inl pending })))
             (λ v z other at-v first.
-            subst (λ l. TriesOk z.core.mode z.core.counts.again (retry_of z.registers).count l (Pending (Holds x) (oldest h.writes u) v))
+            subst (λ l. TriesOk z.core.mode z.core.counts.again (retry_of z.registers).count l (Pending (Some x) (oldest h.writes u) v))
             (sym (at_elsewhere u v (begun ∷ h.trials.exchanges u) h.trials.exchanges other))
-            (repend z.core.mode z.core.counts.again (retry_of z.registers).count (h.trials.exchanges v) (Pending d.air h.aired v) (Pending (Holds x) (oldest h.writes u) v)
+            (repend z.core.mode z.core.counts.again (retry_of z.registers).count (h.trials.exchanges v) (Pending d.air h.aired v) (Pending (Some x) (oldest h.writes u) v)
             (λ p. absurd (subst (λ y. Pending y h.aired v) air p)) (i.tries v z first at-v))) j y at_j one;
         receiver = λ r at-0. i.receiver r (zero_is r at-0);
         memories = λ r at-0. i.memories r (zero_is r at-0);
@@ -306,39 +304,39 @@ module _ (w : ℕ) (f : List Bool → ℕ) where
   -- the same, of whatever the oldest payload is
   sends_oldest : (c d : Inside) (h : History) (u : ℕ) (s a : State) (k : Core) (left : ℕ)
       → 1 ≤ u → unit_at d u ≡ Some s → unit_at c u ≡ Some a → s.registers ≡ a.registers → Inv w f c d h
-      → d.air ≡ Empty → s.fault ≡ None → length s.memories.at ≡ 6 → h.writes.gone u < length (h.writes.written u)
+      → d.air ≡ None → s.fault ≡ None → length s.memories.at ≡ 6 → h.writes.gone u < length (h.writes.written u)
       → k.mode ≡ Waiting left → length (h.trials.exchanges u) ≡ k.counts.again → k.counts.again ≤ (retry_of s.registers).count → All Failed (h.trials.exchanges u)
-      → Inv w f c (with_air (with_unit d u (with_core s k)) (air_of u (bits_of w f (oldest_packet s)))) (note_sending Empty (air_of u (bits_of w f (oldest_packet s))) u h)
+      → Inv w f c (with_air (with_unit d u (with_core s k)) (air_of u (bits_of w f (oldest_packet s)))) (note_sending None (air_of u (bits_of w f (oldest_packet s))) u h)
   sends_oldest c d h u s a k left pos e there regs i air sound long some mode count budget failed =
       let ok = i.senders u s pos e in
       let first_is = tail_first (h.writes.gone u) (h.writes.written u) some in
       let b = first_is.0 in
       let sendable : Sendable b = all_drop_first Sendable (h.writes.written u) (h.writes.gone u) b first_is.1 first_is.2 ok.sendable in
       let it : oldest_packet s ≡ Some (packet_with a (h.writes.gone u) b) = oldest_is s a (h.writes.written u) (h.writes.gone u) b first_is.1 regs ok sendable first_is.2 in
-      let on : air_of u (bits_of w f (oldest_packet s)) ≡ Holds (frame_of u (frame_bits w f (packet_with a (h.writes.gone u) b))) =
+      let on : air_of u (bits_of w f (oldest_packet s)) ≡ Some (frame_of u (frame_bits w f (packet_with a (h.writes.gone u) b))) =
       ap (λ p. air_of u (bits_of w f p)) it
-      ∙ ap (λ z. cond z Empty (Holds (frame_of u (frame_bits w f (packet_with a (h.writes.gone u) b))))) (some_bits w f (packet_with a (h.writes.gone u) b)) in
-      subst (λ z. Inv w f c (with_air (with_unit d u (with_core s k)) z) (note_sending Empty z u h)) (sym on)
+      ∙ ap (λ z. cond z None (Some (frame_of u (frame_bits w f (packet_with a (h.writes.gone u) b))))) (some_bits w f (packet_with a (h.writes.gone u) b)) in
+      subst (λ z. Inv w f c (with_air (with_unit d u (with_core s k)) z) (note_sending None z u h)) (sym on)
       (sends c d h u s a k left b first_is.1 pos e there regs i air sound long first_is.2 some mode count budget failed)
 
   -- ---- a tick in each mode
 
   module _ (c d : Inside) (h : History) (u : ℕ) (s a : State) (pos : 1 ≤ u) (e : unit_at d u ≡ Some s) (there : unit_at c u ≡ Some a) (regs : s.registers ≡ a.registers)
-      (i : Inv w f c d h) (air : d.air ≡ Empty) (sound : s.fault ≡ None) (long : length s.memories.at ≡ 6) where
+      (i : Inv w f c d h) (air : d.air ≡ None) (sound : s.fault ≡ None) (long : length s.memories.at ≡ 6) where
     -- the core afterwards, and the packet that is sent
     abbrev TickedTo : Mode → Core → Option Packet → Type 0
     TickedTo m k p = Inv w f c (with_air (with_unit d u (with_core s k)) (air_of u (bits_of w f p)))
-        (note_giving_up (is_waiting m) (is_waiting k.mode) u (note_sending Empty (air_of u (bits_of w f p)) u h))
+        (note_giving_up (is_waiting m) (is_waiting k.mode) u (note_sending None (air_of u (bits_of w f p)) u h))
 
     retry : Retry
     retry = retry_of s.registers
 
-    quietly : (k : Core) → Quiet s.core k → Inv w f c (with_air (with_unit d u (with_core s k)) Empty) h
+    quietly : (k : Core) → Quiet s.core k → Inv w f c (with_air (with_unit d u (with_core s k)) None) h
     quietly k q = still c d h u (with_core s k) air (quiet_sender w f c d h u s (with_core s k) pos e i refl sound long refl refl q)
 
     on : (k : Core) → h.writes.gone u < length (h.writes.written u)
         → TriesOk k.mode k.counts.again (retry_of s.registers).count (h.trials.exchanges u) (Pending d.air h.aired u)
-        → (is_waiting k.mode ≡ true → is_waiting s.core.mode ≡ true) → Inv w f c (with_air (with_unit d u (with_core s k)) Empty) h
+        → (is_waiting k.mode ≡ true → is_waiting s.core.mode ≡ true) → Inv w f c (with_air (with_unit d u (with_core s k)) None) h
     on k some tries waits = still c d h u (with_core s k) air (mode_keeps c d h u s k pos e i sound long some tries waits)
 
     tries_in : (m : Mode) → s.core.mode ≡ m → TriesOk m s.core.counts.again (retry_of s.registers).count (h.trials.exchanges u) (Pending d.air h.aired u)
@@ -374,7 +372,7 @@ module _ (w : ℕ) (f : List Bool → ℕ) where
         sends_oldest c d h u s a (retried (retry_of s.registers) s.core) (wait_ticks (retry_of s.registers)) pos e there regs i air sound long (under_way (Waiting left) mode refl) refl
         (tries.count ∙ omega arith) (omega (arith, budget)) (⊎_elim (λ p. absurd (subst (λ z. Pending z h.aired u) air p)) (λ z. z) tries.newest)
     in_waiting_last left false t mode =
-        subst (λ z. Inv w f c (with_air (with_unit d u (with_core s (given_up Sender s.core))) Empty) (note_giving_up true z u h)) (sym (resting_waits_not s.core.ce))
+        subst (λ z. Inv w f c (with_air (with_unit d u (with_core s (given_up Sender s.core))) None) (note_giving_up true z u h)) (sym (resting_waits_not s.core.ce))
         (still c d (gave_up u h) u (with_core s (given_up Sender s.core)) air (gives_up c d h u s a left pos e there regs i air sound long mode t))
 
     in_waiting : (left : ℕ) (x : Bool) → s.core.mode ≡ Waiting left
@@ -409,7 +407,7 @@ module _ (w : ℕ) (f : List Bool → ℕ) where
         t : Inside
         t = with_air (with_unit d u (with_core s k)) (air_of u (bits_of w f p))
 
-        noted : d.air ≡ Empty → Inv w f c t (note_tick d u t h)
+        noted : d.air ≡ None → Inv w f c t (note_tick d u t h)
         noted air =
             subst (λ x. Inv w f c t (note_giving_up (waits x) (waits (unit_at t u)) u (note_sending d.air t.air u h))) (sym e)
             (subst (λ x. Inv w f c t (note_giving_up (is_waiting s.core.mode) (waits x) u (note_sending d.air t.air u h))) (sym (now_there d u s (with_core s k) e))
@@ -418,12 +416,12 @@ module _ (w : ℕ) (f : List Bool → ℕ) where
             Inv w f c (with_air (with_unit d u (with_core s (tick_in s.core.mode (cond b Receiver Sender) (retry_of s.registers) (payload_waits s) s.core)))
             (air_of u (bits_of w f (cond (sends_in s.core.mode (cond b Receiver Sender) (retry_of s.registers) s.core) (oldest_packet s) None))))
             (note_giving_up (is_waiting s.core.mode) (is_waiting (tick_in s.core.mode (cond b Receiver Sender) (retry_of s.registers) (payload_waits s) s.core).mode) u
-            (note_sending Empty (air_of u (bits_of w f (cond (sends_in s.core.mode (cond b Receiver Sender) (retry_of s.registers) s.core) (oldest_packet s) None))) u h))) (sym role)
+            (note_sending None (air_of u (bits_of w f (cond (sends_in s.core.mode (cond b Receiver Sender) (retry_of s.registers) s.core) (oldest_packet s) None))) u h))) (sym role)
             (in_any c d h u s a pos e there regs i air sound long s.core.mode refl))))
 
-        by : (b : Air) → d.air ≡ b → Inv w f c (ticked_by w f (Some s) b d u) (note h d (tick u) (answer_of (tick_result_by w f (Some s) b u)) (ticked_by w f (Some s) b d u))
-        by (Holds x) air = i
-        by Empty air =
+        by : (b : Option Frame) → d.air ≡ b → Inv w f c (ticked_by w f (Some s) b d u) (note h d (tick u) (answer_of (tick_result_by w f (Some s) b u)) (ticked_by w f (Some s) b d u))
+        by (Some x) air = i
+        by None air =
             subst (λ r. Inv w f c (with_air (with_unit d u (kept_or r s (tick_state s))) (air_of u (kept_or r [] (bits_of w f (sent s)))))
             (note h d (tick u) (answer_of (done_if (of_the_unit u (unless r (length (bits_of w f (sent s)))))))
             (with_air (with_unit d u (kept_or r s (tick_state s))) (air_of u (kept_or r [] (bits_of w f (sent s))))))) (sym (tick_free s sound)) (noted air)

@@ -11,8 +11,7 @@ use Rattle.commands.specs.declared.refusal.Refusal.{Refusal as UnitRefusal}
 use Rattle.commands.specs.Decode.{Order, read_register, write_register, write_payload, read_payload, flush_tx, flush_rx, nop, ordered}
 use Rattle.modes.specs.Modes.{is_waiting, is_rx}
 use Rattle.unit.specs.declared.state.State.{State}
-use Rattle.cell.specs.declared.air.Air.{Air}
-use Rattle.cell.specs.declared.air.Air.TheVariants.{Empty, Holds}
+use Rattle.cell.specs.declared.air.Frame.{Frame}
 use Rattle.cell.specs.declared.air.Fate.{Fate}
 use Rattle.cell.specs.declared.air.Fate.TheVariants.{Lost, Heard, HeardTwice, Changed}
 use Rattle.cell.specs.declared.parts.Inside.{Inside}
@@ -316,10 +315,10 @@ gave_up k h = record {
   trials = record { exchanges = at k [] h.trials.exchanges; failed = at k (h.trials.exchanges k ∷ h.trials.failed k) h.trials.failed };
 }
 
-abbrev pub note_sending : Air → Air → ℕ → History → History
-note_sending Empty Empty k h = h
-note_sending Empty (Holds x) k h = was_sent k h
-note_sending (Holds y) a k h = h
+abbrev pub note_sending : Option Frame → Option Frame → ℕ → History → History
+note_sending None None k h = h
+note_sending None (Some x) k h = was_sent k h
+note_sending (Some y) a k h = h
 
 -- a tick ends a transaction by MAX_RT where the unit waited before it and no longer does
 abbrev pub note_giving_up : Bool → Bool → ℕ → History → History
@@ -356,9 +355,9 @@ taking n p h = with_receipts (record {
 }) h
 
 -- the receiver answered it, if a frame is on the air then
-abbrev pub answering : Inside → Air → Payload → History → History
-answering c Empty p h = h
-answering c (Holds y) p h = with_receipts (record {
+abbrev pub answering : Inside → Option Frame → Payload → History → History
+answering c None p h = h
+answering c (Some y) p h = with_receipts (record {
   taken = h.receipts.taken;
   unread = h.receipts.unread;
   answered = record { payload = p; latest = latest c p.sender h.receipts.taken } ∷ h.receipts.answered;
@@ -390,10 +389,10 @@ note_counting s t h = record {
   trials = record { exchanges = λ k. cond (shrank s t k) [] (h.trials.exchanges k); failed = h.trials.failed };
 }
 
-abbrev pub note_fate : Option Fate → Air → Inside → Inside → History → History
+abbrev pub note_fate : Option Fate → Option Frame → Inside → Inside → History → History
 note_fate None a s t h = h
-note_fate (Some fate) Empty s t h = h
-note_fate (Some fate) (Holds x) s t h = note_aired h.aired (x.from == 0) fate s t (note_counting s t h)
+note_fate (Some fate) None s t h = h
+note_fate (Some fate) (Some x) s t h = note_aired h.aired (x.from == 0) fate s t (note_counting s t h)
 
 -- ---- a call, and a list of calls
 

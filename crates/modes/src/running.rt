@@ -26,7 +26,16 @@ impl Retry {
     pub fn wait_ticks(self) -> u16
         ensures { result ≡ wait_ticks self }
     {
-        25 * (self.delay as u16 + 1)
+        25 * (u16::from(self.delay) + 1)
+    }
+
+    // A frame was sent, and its acknowledgement is waited for.
+    fn waiting(self) -> Mode
+        ensures { result ≡ Mode.Waiting (wait_ticks self) }
+    {
+        Mode::Waiting {
+            left: self.wait_ticks(),
+        }
     }
 }
 
@@ -35,30 +44,21 @@ impl Mode {
     pub fn is_waiting(self) -> bool
         ensures { result ≡ is_waiting self }
     {
-        match self {
-            Mode::Waiting { .. } => true,
-            _ => false,
-        }
+        matches!(self, Mode::Waiting { .. })
     }
 
     // Whether a receiver listens.
     pub fn is_rx(self) -> bool
         ensures { result ≡ is_rx self }
     {
-        match self {
-            Mode::Rx => true,
-            _ => false,
-        }
+        matches!(self, Mode::Rx)
     }
 
     // Whether registers other than STATUS cannot be written now.
     pub fn is_busy(self) -> bool
         ensures { result ≡ busy self }
     {
-        match self {
-            Mode::Tuning { .. } | Mode::Waiting { .. } | Mode::Rx => true,
-            _ => false,
-        }
+        matches!(self, Mode::Tuning { .. } | Mode::Waiting { .. } | Mode::Rx)
     }
 }
 
@@ -76,11 +76,7 @@ impl Core {
         ensures { self.new ≡ given_up role self.old }
     {
         self.flags.max_rt = true;
-        self.counts.lost = if self.counts.lost < 15 {
-            self.counts.lost + 1
-        } else {
-            15
-        };
+        self.counts.lost = self.counts.lost.saturating_add(1).min(15);
         self.mode = resting(role, self.ce);
     }
 
@@ -90,49 +86,27 @@ impl Core {
         ensures answer { result ≡ sends role retry self.old }
     {
         match (self.mode, role) {
-            (Mode::Starting { left }, _) if left > 1 => {
-                self.mode = Mode::Starting { left: left - 1 };
-                false
-            }
-            (Mode::Starting { .. }, _) => {
-                self.mode = resting(role, self.ce);
-                false
-            }
-            (Mode::IdleTx, _) if waiting && !self.flags.max_rt => {
-                self.begin();
-                false
-            }
-            (Mode::Tuning { left }, _) if left > 1 => {
-                self.mode = Mode::Tuning { left: left - 1 };
-                false
-            }
-            (Mode::Tuning { .. }, Role::Receiver) => {
-                self.mode = Mode::Rx;
-                false
-            }
+            (Mode::Starting { left }, _) if left > 1 => self.mode = Mode::Starting {
+                left: left - 1,
+            },
+            (Mode::Starting { .. }, _) => self.mode = resting(role, self.ce),
+            (Mode::IdleTx, _) if waiting && !self.flags.max_rt => self.begin(),
+            (Mode::Tuning { left }, _) if left > 1 => self.mode = Mode::Tuning { left: left - 1 },
+            (Mode::Tuning { .. }, Role::Receiver) => self.mode = Mode::Rx,
             (Mode::Tuning { .. }, Role::Sender) => {
-                self.mode = Mode::Waiting {
-                    left: retry.wait_ticks(),
-                };
-                true
+                self.mode = retry.waiting();
+                return true;
             }
-            (Mode::Waiting { left }, _) if left > 1 => {
-                self.mode = Mode::Waiting { left: left - 1 };
-                false
-            }
+            (Mode::Waiting { left }, _) if left > 1 => self.mode = Mode::Waiting { left: left - 1 },
             (Mode::Waiting { .. }, _) if self.counts.again < retry.count => {
                 self.counts.again += 1;
-                self.mode = Mode::Waiting {
-                    left: retry.wait_ticks(),
-                };
-                true
+                self.mode = retry.waiting();
+                return true;
             }
-            (Mode::Waiting { .. }, _) => {
-                self.give_up(role);
-                false
-            }
-            _ => false,
+            (Mode::Waiting { .. }, _) => self.give_up(role),
+            _ => {}
         }
+        false
     }
 
     // Sets the level of CE; a level that is there already changes nothing.

@@ -11,6 +11,7 @@ pub use queue::Queue;
 
 impl<T> Queue<T> {
     // An empty queue. Whatever is called on it from then on, entries leave in the order in which they came.
+    #[tactic(auto, using(crate::proofs::Fifo::fifo))]
     pub fn new() -> Self
         ensures empty { result ≡ Queue.Empty }
         ensures order { FirstInFirstOut result }
@@ -35,20 +36,14 @@ impl<T> Queue<T> {
     pub fn is_empty(&self) -> bool
         ensures { result ≡ (length (entries self.now) == 0) }
     {
-        match self {
-            Queue::Empty => true,
-            _ => false,
-        }
+        matches!(self, Queue::Empty)
     }
 
     // Whether three entries stand, so that a further one is refused.
     pub fn is_full(&self) -> bool
         ensures { result ≡ (length (entries self.now) == 3) }
     {
-        match self {
-            Queue::Three { .. } => true,
-            _ => false,
-        }
+        matches!(self, Queue::Three { .. })
     }
 
     // The oldest entry, lent.
@@ -57,9 +52,9 @@ impl<T> Queue<T> {
     {
         match self {
             Queue::Empty => None,
-            Queue::One { oldest } => Some(oldest),
-            Queue::Two { oldest, .. } => Some(oldest),
-            Queue::Three { oldest, .. } => Some(oldest),
+            Queue::One { oldest } | Queue::Two { oldest, .. } | Queue::Three { oldest, .. } => {
+                Some(oldest)
+            }
         }
     }
 }
@@ -71,31 +66,23 @@ impl<T: Drop> Queue<T> {
         ensures after { self.new ≡ pushed self.old value }
         ensures law { JoinsLast self.old value result self.new }
     {
-        match std::mem::replace(self, Queue::Empty) {
-            Queue::Empty => {
-                *self = Queue::One { oldest: value };
-                Ok(())
-            }
-            Queue::One { oldest } => {
-                *self = Queue::Two {
-                    oldest,
-                    middle: value,
-                };
-                Ok(())
-            }
-            Queue::Two { oldest, middle } => {
-                *self = Queue::Three {
-                    oldest,
-                    middle,
-                    newest: value,
-                };
-                Ok(())
-            }
+        *self = match std::mem::replace(self, Queue::Empty) {
+            Queue::Empty => Queue::One { oldest: value },
+            Queue::One { oldest } => Queue::Two {
+                oldest,
+                middle: value,
+            },
+            Queue::Two { oldest, middle } => Queue::Three {
+                oldest,
+                middle,
+                newest: value,
+            },
             full => {
                 *self = full;
-                Err(value)
+                return Err(value);
             }
-        }
+        };
+        Ok(())
     }
 
     // Takes the oldest entry out.
@@ -104,25 +91,24 @@ impl<T: Drop> Queue<T> {
         ensures after { self.new ≡ popped self.old }
         ensures law { LeavesFirst self.old result self.new }
     {
-        match std::mem::replace(self, Queue::Empty) {
-            Queue::Empty => None,
-            Queue::One { oldest } => Some(oldest),
-            Queue::Two { oldest, middle } => {
-                *self = Queue::One { oldest: middle };
-                Some(oldest)
-            }
+        let (oldest, rest) = match std::mem::replace(self, Queue::Empty) {
+            Queue::Empty => return None,
+            Queue::One { oldest } => (oldest, Queue::Empty),
+            Queue::Two { oldest, middle } => (oldest, Queue::One { oldest: middle }),
             Queue::Three {
                 oldest,
                 middle,
                 newest,
-            } => {
-                *self = Queue::Two {
+            } => (
+                oldest,
+                Queue::Two {
                     oldest: middle,
                     middle: newest,
-                };
-                Some(oldest)
-            }
-        }
+                },
+            ),
+        };
+        *self = rest;
+        Some(oldest)
     }
 
     // Lets every entry go.

@@ -1,5 +1,6 @@
 -- Host commands on a boxed unit.
 use Rattle.std.specs.Prelude.{ℕ, ◌+◌, Bool, true, false, cond, not, ◌&&◌, ◌||◌, List, [], ◌∷◌, ◌++◌, length, drop, Some, None, Ok, Err, Option, Result, ◌==◌, nat_lt, slice_index}
+use Rattle.std.specs.List.{list_all}
 use Rattle.std.specs.Option.{option_map}
 use Rattle.queue.specs.declared.queue.Queue.TheVariants.{Empty}
 use Rattle.queue.specs.Entries.{entries, first, pushed, popped}
@@ -70,8 +71,7 @@ alike false b = not b
 
 -- the bits of CONFIG that are fixed by boxing come as they stand: 7, 3, 2 and 0
 abbrev pub as_it_stands : ℕ → ℕ → Bool
-as_it_stands config v =
-    alike (bit 7 config) (bit 7 v) && (alike (bit 3 config) (bit 3 v) && (alike (bit 2 config) (bit 2 v) && alike (bit 0 config) (bit 0 v)))
+as_it_stands config v = list_all (λ place. alike (bit place config) (bit place v)) (7 ∷ (3 ∷ (2 ∷ (0 ∷ []))))
 
 -- fixed by boxing is all but STATUS and four bits of CONFIG
 abbrev pub fixed : State → Register → List ℕ → Bool
@@ -83,24 +83,31 @@ value_refusals s r d =
     (is_read_only r || fixed s r d, ReadOnly)
     ∷ ((busy s.core.mode && not (address_of r == 0x07), Busy) ∷ ((not (takes r d), NotAllowed r) ∷ []))
 
--- the refusals of each command, in their order
+-- a sender reads no payload, and a receiver writes none
+abbrev pub wrong_role : State → Order → Bool
+wrong_role s (read_register r d) = false
+wrong_role s (write_register r d) = false
+wrong_role s (write_payload d) = receiver s
+wrong_role s (read_payload d) = not (receiver s)
+wrong_role s (flush_tx d) = receiver s
+wrong_role s (flush_rx d) = not (receiver s)
+wrong_role s (nop d) = false
+
+-- the refusals of each command that this role takes, with as many data bytes as it takes
+abbrev pub further_refusals : State → ℕ → Order → List (Bool × Refusal)
+further_refusals s room (read_register r d) = (nat_lt room (1 + length (reads s r)), ReplyRoom) ∷ []
+further_refusals s room (write_register r d) = (nat_lt room 1, ReplyRoom) ∷ value_refusals s r d
+further_refusals s room (write_payload d) = (nat_lt room 1, ReplyRoom) ∷ ((tx_full s, QueueFull) ∷ [])
+further_refusals s room (read_payload d) =
+    ((length (entries s.rx) == 0), NothingReceived)
+    ∷ ((nat_lt room (1 + length (received_bytes (first (entries s.rx)))), ReplyRoom) ∷ [])
+further_refusals s room (flush_tx d) = (nat_lt room 1, ReplyRoom) ∷ []
+further_refusals s room (flush_rx d) = (nat_lt room 1, ReplyRoom) ∷ []
+further_refusals s room (nop d) = (nat_lt room 1, ReplyRoom) ∷ []
+
+-- all refusals of a command, in their order
 abbrev pub refusals : State → ℕ → Order → List (Bool × Refusal)
-refusals s room (read_register r d) =
-    (not (fits (read_register r d)), DataLength) ∷ ((nat_lt room (1 + length (reads s r)), ReplyRoom) ∷ [])
-refusals s room (write_register r d) = (not (fits (write_register r d)), DataLength) ∷ ((nat_lt room 1, ReplyRoom) ∷ value_refusals s r d)
-refusals s room (write_payload d) =
-    (receiver s, NotForUnit)
-    ∷ ((not (fits (write_payload d)), DataLength) ∷ ((nat_lt room 1, ReplyRoom) ∷ ((tx_full s, QueueFull) ∷ [])))
-refusals s room (read_payload d) =
-    (not (receiver s), NotForUnit)
-    ∷ ((not (fits (read_payload d)), DataLength)
-    ∷ (((length (entries s.rx) == 0), NothingReceived)
-    ∷ ((nat_lt room (1 + length (received_bytes (first (entries s.rx)))), ReplyRoom) ∷ [])))
-refusals s room (flush_tx d) =
-    (receiver s, NotForUnit) ∷ ((not (fits (flush_tx d)), DataLength) ∷ ((nat_lt room 1, ReplyRoom) ∷ []))
-refusals s room (flush_rx d) =
-    (not (receiver s), NotForUnit) ∷ ((not (fits (flush_rx d)), DataLength) ∷ ((nat_lt room 1, ReplyRoom) ∷ []))
-refusals s room (nop d) = (not (fits (nop d)), DataLength) ∷ ((nat_lt room 1, ReplyRoom) ∷ [])
+refusals s room o = (wrong_role s o, NotForUnit) ∷ ((not (fits o), DataLength) ∷ further_refusals s room o)
 
 -- a fault first of all, then bytes that are no command, then the first that applies
 abbrev pub order_refusal : State → ℕ → Result Order Refusal → Option Refusal
@@ -171,3 +178,16 @@ serve_after s room o = kept_or (first_of (refusals s room o)) s (done s o)
 abbrev pub serve_buffer : State → List ℕ → Order → List ℕ
 serve_buffer s buffer o =
     kept_or (first_of (refusals s (length buffer) o)) buffer ((status s ∷ answered s o) ++ drop (1 + length (answered s o)) buffer)
+
+-- ---- the same, where role and number of data bytes are tested already
+
+abbrev pub further_answer : State → ℕ → Order → Result ℕ Refusal
+further_answer s room o = unless (first_of (further_refusals s room o)) (1 + length (answered s o))
+
+abbrev pub further_after : State → ℕ → Order → State
+further_after s room o = kept_or (first_of (further_refusals s room o)) s (done s o)
+
+abbrev pub further_buffer : State → List ℕ → Order → List ℕ
+further_buffer s buffer o =
+    kept_or (first_of (further_refusals s (length buffer) o)) buffer
+    ((status s ∷ answered s o) ++ drop (1 + length (answered s o)) buffer)

@@ -1,8 +1,11 @@
 // Host commands on a boxed unit.
-ghost use Rattle.std.specs.Prelude.{◌≡◌, ◌<◌, [], ◌∷◌, length, slice_index_or};
-ghost use Rattle.commands.specs.Decode.{order, ordered, read_register, write_register, write_payload, read_payload, flush_tx, flush_rx, nop};
-ghost use Rattle.commands.specs.Refusals.{first_of};
-ghost use Rattle.unit.specs.Commanding.{live_of, as_it_stands, fixed, value_refusals, written, serve_answer, serve_after, serve_buffer, command_answer, command_after, command_buffer};
+ghost use Rattle.std.specs.Prelude.{◌≡◌, ◌<◌, [], ◌∷◌, length, true, slice_index_or, nat_lt};
+ghost use Rattle.std.specs.List.{list_all};
+ghost use Rattle.registers.specs.Bits.{bit};
+ghost use Rattle.commands.specs.declared.refusal.Refusal.TheVariants.{ReplyRoom};
+ghost use Rattle.commands.specs.Decode.{order, ordered, read_register, write_register, write_payload, read_payload, flush_tx, flush_rx, fits};
+ghost use Rattle.commands.specs.Refusals.{first_of, unless};
+ghost use Rattle.unit.specs.Commanding.{live_of, alike, fixed, value_refusals, written, wrong_role, further_answer, further_after, further_buffer, serve_answer, serve_after, serve_buffer, command_answer, command_after, command_buffer};
 
 use crate::entry::{Data, Outgoing};
 use crate::state::{Boxed, State};
@@ -11,21 +14,34 @@ use checks::Check;
 use commands::{Command, Refusal, decode, fifo_status, observe_tx, reply, status_byte};
 use registers::{Register, stands};
 
-// Whether the bits of CONFIG that are fixed by boxing come as they stand.
-fn is_as_it_stands(config: u8, value: u8) -> bool
-    ensures { result ≡ as_it_stands config value }
+// The bits of CONFIG that are fixed by boxing: bit 7, which means nothing, EN_CRC, CRCO and PRIM_RX.
+const FIXED_BITS: [u8; 4] = [7, 3, 2, 0];
+
+// Whether two bytes have the same bits at these places.
+fn agree_at(places: &[u8], a: u8, b: u8) -> bool
+    ensures { result ≡ list_all (λ place. alike (bit place a) (bit place b)) places.now }
 {
-    stands(config, 7) == stands(value, 7)
-        && stands(config, 3) == stands(value, 3)
-        && stands(config, 2) == stands(value, 2)
-        && stands(config, 0) == stands(value, 0)
+    places
+        .iter()
+        .all(|&place| stands(a, place) == stands(b, place))
 }
 
 // The first of the data bytes.
 fn first_byte(data: &[u8]) -> u8
     ensures { result ≡ slice_index_or «data».now 0 0 }
 {
-    if data.is_empty() { 0 } else { data[0] }
+    data.first().copied().unwrap_or(0)
+}
+
+// There is room for STATUS.
+fn ensure_status_fits(buffer: &[u8]) -> Result<(), Refusal>
+    ensures { result ≡ unless (first_of ((nat_lt (length buffer.now) 1, ReplyRoom) ∷ [])) tt }
+{
+    if buffer.is_empty() {
+        Err(Refusal::ReplyRoom)
+    } else {
+        Ok(())
+    }
 }
 
 impl State {
@@ -33,10 +49,7 @@ impl State {
     pub(crate) fn live(&self) -> Live
         ensures { result ≡ live_of self.now }
     {
-        let pipe = match self.rx.oldest() {
-            Some(received) => Some(received.pipe),
-            None => None,
-        };
+        let pipe = self.rx.oldest().map(|received| received.pipe);
         Live {
             status: status_byte(self.core.flags, pipe, self.tx.is_full()),
             observe_tx: observe_tx(self.core.counts.lost, self.core.counts.again),
@@ -45,20 +58,12 @@ impl State {
     }
 
     // R_REGISTER.
-    fn read_register(
-        &self,
-        register: Register,
-        data: &[u8],
-        buffer: &mut [u8],
-    ) -> Result<usize, Refusal>
-        ensures answer { result ≡ serve_answer self.now (length buffer.old) (read_register register «data».now) }
-        ensures buffer { buffer.new ≡ serve_buffer self.now buffer.old (read_register register «data».now) }
+    fn read_register(&self, register: Register, buffer: &mut [u8]) -> Result<usize, Refusal>
+        ensures answer { result ≡ further_answer self.now (length buffer.old) (read_register register []) }
+        ensures buffer { buffer.new ≡ further_buffer self.now buffer.old (read_register register []) }
     {
-        if !data.is_empty() {
-            return Err(Refusal::DataLength);
-        }
         let live = self.live();
-        if register.address() == 0x00 {
+        if register == Register::Config {
             reply(buffer, live.status, &[self.core.config])
         } else {
             reply_register(&self.registers, live, register, buffer)
@@ -69,9 +74,9 @@ impl State {
     fn is_fixed(&self, register: Register, value: u8) -> bool
         ensures { result ≡ fixed self.now register (value ∷ []) }
     {
-        match register.address() {
-            0x07 => false,
-            0x00 => !is_as_it_stands(self.core.config, value),
+        match register {
+            Register::Status => false,
+            Register::Config => !agree_at(&FIXED_BITS, self.core.config, value),
             _ => true,
         }
     }
@@ -80,29 +85,27 @@ impl State {
     fn store(&mut self, register: Register, value: u8)
         ensures { self.new ≡ written self.old register value }
     {
-        if register.address() == 0x07 {
+        if register == Register::Status {
             self.core.flags = self.core.flags.cleared_by(value);
         } else {
             self.core.configure(value);
         }
     }
-}
 
-impl State {
-    // Why a register does not take a value, once number of bytes and reply fit.
-    fn value_refusal(&self, register: Register, data: &[u8]) -> Option<Refusal>
-        ensures { result ≡ first_of (value_refusals self.now register «data».now) }
+    // The register takes the value.
+    fn ensure_takes(&self, register: Register, data: &[u8]) -> Result<(), Refusal>
+        ensures { result ≡ unless (first_of (value_refusals self.now register «data».now)) tt }
     {
         if register.is_read_only() || self.is_fixed(register, first_byte(data)) {
-            return Some(Refusal::ReadOnly);
+            return Err(Refusal::ReadOnly);
         }
-        if self.core.mode.is_busy() && register.address() != 0x07 {
-            return Some(Refusal::Busy);
+        if self.core.mode.is_busy() && register != Register::Status {
+            return Err(Refusal::Busy);
         }
         if !register.allows(data) {
-            return Some(Refusal::NotAllowed(register));
+            return Err(Refusal::NotAllowed(register));
         }
-        None
+        Ok(())
     }
 
     // W_REGISTER.
@@ -112,142 +115,102 @@ impl State {
         data: &[u8],
         buffer: &mut [u8],
     ) -> Result<usize, Refusal>
-        ensures answer { result ≡ serve_answer self.old (length buffer.old) (write_register register «data».now) }
-        ensures state { self.new ≡ serve_after self.old (length buffer.old) (write_register register «data».now) }
-        ensures buffer { buffer.new ≡ serve_buffer self.old buffer.old (write_register register «data».now) }
+        ensures answer { result ≡ further_answer self.old (length buffer.old) (write_register register «data».now) }
+        ensures state { self.new ≡ further_after self.old (length buffer.old) (write_register register «data».now) }
+        ensures buffer { buffer.new ≡ further_buffer self.old buffer.old (write_register register «data».now) }
     {
-        if data.len() != register.size() {
-            return Err(Refusal::DataLength);
-        }
-        if buffer.is_empty() {
-            return Err(Refusal::ReplyRoom);
-        }
-        match self.value_refusal(register, data) {
-            Some(refusal) => Err(refusal),
-            None => {
-                let status = self.live().status;
-                self.store(register, first_byte(data));
-                reply(buffer, status, &[])
-            }
-        }
+        ensure_status_fits(buffer)?;
+        self.ensure_takes(register, data)?;
+        let status = self.live().status;
+        self.store(register, first_byte(data));
+        reply(buffer, status, &[])
     }
 
     // W_TX_PAYLOAD.
     fn write_payload(&mut self, data: &[u8], buffer: &mut [u8]) -> Result<usize, Refusal>
-        ensures answer { result ≡ serve_answer self.old (length buffer.old) (write_payload «data».now) }
-        ensures state { self.new ≡ serve_after self.old (length buffer.old) (write_payload «data».now) }
-        ensures buffer { buffer.new ≡ serve_buffer self.old buffer.old (write_payload «data».now) }
+        requires { fits (write_payload «data».now) ≡ true }
+        ensures answer { result ≡ further_answer self.old (length buffer.old) (write_payload «data».now) }
+        ensures state { self.new ≡ further_after self.old (length buffer.old) (write_payload «data».now) }
+        ensures buffer { buffer.new ≡ further_buffer self.old buffer.old (write_payload «data».now) }
     {
-        if self.registers.is_receiver() {
-            return Err(Refusal::NotForUnit);
-        }
-        let Some(entry) = Data::new(data) else {
-            return Err(Refusal::DataLength);
-        };
-        if buffer.is_empty() {
-            return Err(Refusal::ReplyRoom);
-        }
-        if self.tx.is_full() {
-            return Err(Refusal::QueueFull);
-        }
+        let data = Data::new(data).ok_or(Refusal::DataLength)?;
+        ensure_status_fits(buffer)?;
         let status = self.live().status;
-        self.pid = self.pid.next();
-        let _ = self.tx.push(Outgoing {
-            pid: self.pid,
-            data: entry,
-        });
+        let pid = self.pid.next();
+        self.tx
+            .push(Outgoing { pid, data })
+            .map_err(|_| Refusal::QueueFull)?;
+        self.pid = pid;
         reply(buffer, status, &[])
     }
 
     // R_RX_PAYLOAD.
-    fn read_payload(&mut self, data: &[u8], buffer: &mut [u8]) -> Result<usize, Refusal>
-        ensures answer { result ≡ serve_answer self.old (length buffer.old) (read_payload «data».now) }
-        ensures state { self.new ≡ serve_after self.old (length buffer.old) (read_payload «data».now) }
-        ensures buffer { buffer.new ≡ serve_buffer self.old buffer.old (read_payload «data».now) }
+    fn read_payload(&mut self, buffer: &mut [u8]) -> Result<usize, Refusal>
+        ensures answer { result ≡ further_answer self.old (length buffer.old) (read_payload []) }
+        ensures state { self.new ≡ further_after self.old (length buffer.old) (read_payload []) }
+        ensures buffer { buffer.new ≡ further_buffer self.old buffer.old (read_payload []) }
     {
-        if !self.registers.is_receiver() {
-            return Err(Refusal::NotForUnit);
-        }
-        if !data.is_empty() {
-            return Err(Refusal::DataLength);
-        }
         let status = self.live().status;
-        let Some(received) = self.rx.oldest() else {
-            return Err(Refusal::NothingReceived);
-        };
+        let received = self.rx.oldest().ok_or(Refusal::NothingReceived)?;
         let length = reply(buffer, status, received.data.payload.bytes())?;
         let _ = self.rx.pop();
         Ok(length)
     }
 
     // FLUSH_TX.
-    fn flush_tx(&mut self, data: &[u8], buffer: &mut [u8]) -> Result<usize, Refusal>
-        ensures answer { result ≡ serve_answer self.old (length buffer.old) (flush_tx «data».now) }
-        ensures state { self.new ≡ serve_after self.old (length buffer.old) (flush_tx «data».now) }
-        ensures buffer { buffer.new ≡ serve_buffer self.old buffer.old (flush_tx «data».now) }
+    fn flush_tx(&mut self, buffer: &mut [u8]) -> Result<usize, Refusal>
+        ensures answer { result ≡ further_answer self.old (length buffer.old) (flush_tx []) }
+        ensures state { self.new ≡ further_after self.old (length buffer.old) (flush_tx []) }
+        ensures buffer { buffer.new ≡ further_buffer self.old buffer.old (flush_tx []) }
     {
-        if self.registers.is_receiver() {
-            return Err(Refusal::NotForUnit);
-        }
-        if !data.is_empty() {
-            return Err(Refusal::DataLength);
-        }
-        if buffer.is_empty() {
-            return Err(Refusal::ReplyRoom);
-        }
-        let status = self.live().status;
+        let length = reply(buffer, self.live().status, &[])?;
         self.tx.clear();
         self.core.flush();
-        reply(buffer, status, &[])
+        Ok(length)
     }
 
     // FLUSH_RX.
-    fn flush_rx(&mut self, data: &[u8], buffer: &mut [u8]) -> Result<usize, Refusal>
-        ensures answer { result ≡ serve_answer self.old (length buffer.old) (flush_rx «data».now) }
-        ensures state { self.new ≡ serve_after self.old (length buffer.old) (flush_rx «data».now) }
-        ensures buffer { buffer.new ≡ serve_buffer self.old buffer.old (flush_rx «data».now) }
+    fn flush_rx(&mut self, buffer: &mut [u8]) -> Result<usize, Refusal>
+        ensures answer { result ≡ further_answer self.old (length buffer.old) (flush_rx []) }
+        ensures state { self.new ≡ further_after self.old (length buffer.old) (flush_rx []) }
+        ensures buffer { buffer.new ≡ further_buffer self.old buffer.old (flush_rx []) }
     {
-        if !self.registers.is_receiver() {
-            return Err(Refusal::NotForUnit);
-        }
-        if !data.is_empty() {
-            return Err(Refusal::DataLength);
-        }
-        if buffer.is_empty() {
-            return Err(Refusal::ReplyRoom);
-        }
-        let status = self.live().status;
+        let length = reply(buffer, self.live().status, &[])?;
         self.rx.clear();
-        reply(buffer, status, &[])
+        Ok(length)
     }
 
-    // NOP.
-    fn nop(&self, data: &[u8], buffer: &mut [u8]) -> Result<usize, Refusal>
-        ensures answer { result ≡ serve_answer self.now (length buffer.old) (nop «data».now) }
-        ensures buffer { buffer.new ≡ serve_buffer self.now buffer.old (nop «data».now) }
+    // Whether the command is one for the other role.
+    fn is_for_other_role(&self, command: &Command<'_>) -> bool
+        ensures { result ≡ wrong_role self.now (order command.now) }
     {
-        if !data.is_empty() {
-            return Err(Refusal::DataLength);
+        match command {
+            Command::WritePayload(_) | Command::FlushTx(_) => self.registers.is_receiver(),
+            Command::ReadPayload(_) | Command::FlushRx(_) => !self.registers.is_receiver(),
+            Command::ReadRegister(..) | Command::WriteRegister(..) | Command::Nop(_) => false,
         }
-        reply(buffer, self.live().status, &[])
     }
-}
 
-impl State {
     // A command that was read.
     fn serve(&mut self, command: Command<'_>, buffer: &mut [u8]) -> Result<usize, Refusal>
         ensures answer { result ≡ serve_answer self.old (length buffer.old) (order command.entry) }
         ensures state { self.new ≡ serve_after self.old (length buffer.old) (order command.entry) }
         ensures buffer { buffer.new ≡ serve_buffer self.old buffer.old (order command.entry) }
     {
+        if self.is_for_other_role(&command) {
+            return Err(Refusal::NotForUnit);
+        }
+        if !command.data_fits() {
+            return Err(Refusal::DataLength);
+        }
         match command {
-            Command::ReadRegister(register, data) => self.read_register(register, data, buffer),
+            Command::ReadRegister(register, _) => self.read_register(register, buffer),
             Command::WriteRegister(register, data) => self.write_register(register, data, buffer),
             Command::WritePayload(data) => self.write_payload(data, buffer),
-            Command::ReadPayload(data) => self.read_payload(data, buffer),
-            Command::FlushTx(data) => self.flush_tx(data, buffer),
-            Command::FlushRx(data) => self.flush_rx(data, buffer),
-            Command::Nop(data) => self.nop(data, buffer),
+            Command::ReadPayload(_) => self.read_payload(buffer),
+            Command::FlushTx(_) => self.flush_tx(buffer),
+            Command::FlushRx(_) => self.flush_rx(buffer),
+            Command::Nop(_) => reply(buffer, self.live().status, &[]),
         }
     }
 }
@@ -259,12 +222,7 @@ impl<C: Check> Boxed<C> {
         ensures state { self.new.state ≡ command_after self.old.state (length buffer.old) (ordered bytes.now) }
         ensures buffer { buffer.new ≡ command_buffer self.old.state buffer.old (ordered bytes.now) }
     {
-        if let Some(register) = self.state.fault {
-            return Err(Refusal::Fault(register));
-        }
-        match decode(bytes) {
-            Ok(command) => self.state.serve(command, buffer),
-            Err(refusal) => Err(refusal),
-        }
+        self.state.ensure_sound()?;
+        self.state.serve(decode(bytes)?, buffer)
     }
 }

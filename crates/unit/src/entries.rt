@@ -14,9 +14,7 @@ impl Data {
         if given.is_empty() {
             return None;
         }
-        match Payload::new(given) {
-            Some(payload) => Some(Data { payload }),
-            None => None,
-        }
+        let payload = Payload::new(given)?;
+        Some(Data { payload })
     }
 }

@@ -10,12 +10,14 @@ ghost use Rattle.unit.specs.Hearing.{on_pipe, pipe_of, on_its_pipe, taken, ackno
 
 use crate::entry::{Data, Received};
 use crate::memory::Memory;
-use crate::settings::address_width;
+use crate::refusing::ensure_frame_fits;
+use crate::settings::{address_width, role};
 use crate::state::{Boxed, State};
 use crate::ticking::put_frame;
 use checks::Check;
 use commands::Refusal;
 use frames::{Address, Fields, Heard, Payload};
+use modes::Role;
 use registers::{Pipe, Registers};
 
 // The address in use of a pipe.
@@ -28,7 +30,7 @@ fn pipe_in_use(registers: &Registers, pipe: Pipe) -> Address
 fn is_on_pipe(registers: &Registers, address: &Address, pipe: Pipe) -> bool
     ensures { result ≡ on_pipe registers.now (address_bytes address.now) pipe }
 {
-    registers.is_enabled(pipe) && pipe_in_use(registers, pipe).same(address)
+    registers.is_enabled(pipe) && pipe_in_use(registers, pipe) == *address
 }
 
 // The pipe of a receiver with this address.
@@ -57,39 +59,22 @@ fn acknowledge(fields: &Fields) -> Option<Fields>
     ensures { option_map packet_of result ≡ acknowledgement (packet_of fields.now) }
 {
     if fields.no_ack {
-        None
-    } else {
-        Some(Fields {
-            address: fields.address,
-            pid: fields.pid,
-            no_ack: false,
-            payload: Payload::empty(),
-        })
+        return None;
     }
+    Some(Fields {
+        payload: Payload::empty(),
+        ..*fields
+    })
 }
 
 impl State {
-    // Puts a payload into the RX queue, if there is a free place; the answer says whether it was taken.
-    fn take(&mut self, pipe: Pipe, data: Data, memory: Memory) -> bool
-        ensures after { self.new ≡ (if nat_eq (length (entries self.old.rx)) 3 then self.old else taken self.old pipe «data» memory) }
-        ensures answer { result ≡ not (length (entries self.old.rx) == 3) }
-    {
-        if self.rx.is_full() {
-            return false;
-        }
-        let _ = self.rx.push(Received { pipe, data });
-        self.core.flags.rx_dr = true;
-        self.memories.remember(pipe, memory);
-        true
-    }
-
     // A frame with the address of one of the receiver's pipes.
     fn hear_on(&mut self, pipe: Pipe, heard: &Heard) -> Option<Fields>
         ensures after { self.new ≡ (on_its_pipe self.old (packet_of heard.now.fields) (record { pid = pid_number heard.now.fields.pid; check = heard.now.check }) (Some pipe)).state }
         ensures answer { option_map packet_of result ≡ (on_its_pipe self.old (packet_of heard.now.fields) (record { pid = pid_number heard.now.fields.pid; check = heard.now.check }) (Some pipe)).answer }
     {
         let payload = heard.fields.payload.bytes();
-        if payload.len() != self.registers.payload_width(pipe) as usize {
+        if payload.len() != usize::from(self.registers.payload_width(pipe)) {
             return None;
         }
         let memory = Memory {
@@ -99,14 +84,11 @@ impl State {
         if self.memories.knows(pipe, memory) {
             return acknowledge(&heard.fields);
         }
-        let Some(data) = Data::new(payload) else {
-            return None;
-        };
-        if self.take(pipe, data, memory) {
-            acknowledge(&heard.fields)
-        } else {
-            None
-        }
+        let data = Data::new(payload)?;
+        self.rx.push(Received { pipe, data }).ok()?;
+        self.core.flags.rx_dr = true;
+        self.memories.remember(pipe, memory);
+        acknowledge(&heard.fields)
     }
 }
 
@@ -115,17 +97,15 @@ impl State {
         ensures after { self.new ≡ (heard_by_receiver self.old (packet_of heard.now.fields) heard.now.check).state }
         ensures answer { option_map packet_of result ≡ (heard_by_receiver self.old (packet_of heard.now.fields) heard.now.check).answer }
     {
-        match pipe_of(&self.registers, &heard.fields.address) {
-            Some(pipe) => self.hear_on(pipe, heard),
-            None => None,
-        }
+        let pipe = pipe_of(&self.registers, &heard.fields.address)?;
+        self.hear_on(pipe, heard)
     }
 
     fn hear_as_sender(&mut self, fields: &Fields)
         ensures { self.new ≡ (heard_by_sender self.old (packet_of fields.now)).state }
     {
         if fields.payload.bytes().is_empty()
-            && pipe_in_use(&self.registers, Pipe::P0).same(&fields.address)
+            && pipe_in_use(&self.registers, Pipe::P0) == fields.address
         {
             let _ = self.tx.pop();
             let left = !self.tx.is_empty();
@@ -138,39 +118,34 @@ impl State {
         ensures after { self.new ≡ (hears self.old (packet_of heard.now.fields) heard.now.check).state }
         ensures answer { option_map packet_of result ≡ (hears self.old (packet_of heard.now.fields) heard.now.check).answer }
     {
-        if self.registers.is_receiver() {
-            if self.core.mode.is_rx() {
-                return self.hear_as_receiver(heard);
+        match role(&self.registers) {
+            Role::Receiver if self.core.mode.is_rx() => self.hear_as_receiver(heard),
+            Role::Sender if self.core.mode.is_waiting() => {
+                self.hear_as_sender(&heard.fields);
+                None
             }
-            return None;
+            _ => None,
         }
-        if self.core.mode.is_waiting() {
-            self.hear_as_sender(&heard.fields);
-        }
-        None
     }
 }
 
 impl<C: Check> Boxed<C> {
     // A frame reaches the unit: the first `count` bits of its bytes. The answer is the bit count of the frame that is sent
     // back, 0 for none; it stands in the buffer.
+    #[tactic(auto, unfolding(frames::specs::Octets::octets))]
     pub fn hear(&mut self, frame: &[u8], count: usize, buffer: &mut [u8]) -> Result<usize, Refusal>
         ensures answer { result ≡ hear_answer C.Check.width C.meaning self.old.state frame.now count (length buffer.old) }
         ensures state { self.new.state ≡ hear_after C.Check.width C.meaning self.old.state frame.now count (length buffer.old) }
         ensures buffer { buffer.new ≡ hear_buffer C.Check.width C.meaning self.old.state frame.now count buffer.old }
     {
-        if let Some(register) = self.state.fault {
-            return Err(Refusal::Fault(register));
-        }
-        if buffer.len() < 42 {
-            return Err(Refusal::FrameBytes);
-        }
-        match frames::read::<C>(frame, count, address_width(&self.state.registers)) {
-            Err(_) => Err(Refusal::FrameBytes),
-            Ok(heard) => match heard {
-                Some(heard) => Ok(put_frame::<C>(self.state.hear(&heard), buffer)),
-                None => Ok(put_frame::<C>(None, buffer)),
-            },
-        }
+        self.state.ensure_sound()?;
+        ensure_frame_fits(buffer)?;
+        let heard = frames::read::<C>(frame, count, address_width(&self.state.registers)).map_err(
+            |_| Refusal::FrameBytes,
+        )?;
+        let Some(heard) = heard else {
+            return Ok(0);
+        };
+        Ok(put_frame::<C>(self.state.hear(&heard), buffer))
     }
 }

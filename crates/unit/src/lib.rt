@@ -8,6 +8,7 @@ mod entry;
 mod hearing;
 mod laws;
 mod memory;
+mod refusing;
 mod remembering;
 mod settings;
 mod state;

@@ -1,5 +1,6 @@
-// What a pipe remembers of the last payload taken on it: its packet identity and its check, as plain numbers.
-#[derive(Clone, Copy)]
+// What a pipe remembers of the last payload taken on it: its packet identity and its check. The identity is no `Pid` here: what is
+// remembered is compared with what a packet carries, and a packet is defined by numbers (a number above 3 is no `Pid`).
+#[derive(Clone, Copy, PartialEq, Eq)]
 pub struct Memory {
     pub pid: u8,
     pub check: u16,

@@ -10,16 +10,13 @@ impl Memories {
     pub(crate) fn knows(&self, pipe: Pipe, memory: Memory) -> bool
         ensures { result ≡ same_memory (recalled self.now pipe) memory }
     {
-        match self.at[pipe.index() as usize] {
-            Some(last) => last.pid == memory.pid && last.check == memory.check,
-            None => false,
-        }
+        self.at[usize::from(pipe.index())] == Some(memory)
     }
 
     // The pipe remembers this; the others keep what they have.
     pub(crate) fn remember(&mut self, pipe: Pipe, memory: Memory)
         ensures { self.new ≡ remembered self.old pipe memory }
     {
-        self.at[pipe.index() as usize] = Some(memory);
+        self.at[usize::from(pipe.index())] = Some(memory);
     }
 }

@@ -32,11 +32,8 @@ pub(crate) fn retry(registers: &Registers) -> Retry
 pub(crate) fn address_width(registers: &Registers) -> AddressWidth
     ensures { bytes_of_width result ≡ width_of (byte_of registers.now SetupAw) }
 {
-    match registers.address_width() {
-        3 => AddressWidth::Three,
-        4 => AddressWidth::Four,
-        _ => AddressWidth::Five,
-    }
+    // a register file says 3, 4 or 5
+    AddressWidth::try_from(registers.address_width()).unwrap()
 }
 
 // The address to which a sender sends.

@@ -5,7 +5,7 @@ ghost use Rattle.frames.specs.Calls.{packet_of};
 ghost use Rattle.frames.specs.Packet.{buffer_after};
 ghost use Rattle.unit.specs.Ticking.{oldest_packet, sent, bits_of, tick_state, tick_answer, tick_after, tick_buffer, ce_answer, ce_after};
 
-use crate::entry::Outgoing;
+use crate::refusing::ensure_frame_fits;
 use crate::settings::{retry, role, tx_address};
 use crate::state::{Boxed, State};
 use checks::Check;
@@ -17,15 +17,12 @@ impl State {
     fn oldest_fields(&self) -> Option<Fields>
         ensures { option_map packet_of result ≡ oldest_packet self.now }
     {
-        match self.tx.oldest() {
-            Some(outgoing) => Some(Fields {
-                address: tx_address(&self.registers),
-                pid: outgoing.pid,
-                no_ack: false,
-                payload: outgoing.data.payload,
-            }),
-            None => None,
-        }
+        self.tx.oldest().map(|outgoing| Fields {
+            address: tx_address(&self.registers),
+            pid: outgoing.pid,
+            no_ack: false,
+            payload: outgoing.data.payload,
+        })
     }
 
     // One tick. The answer is what is sent.
@@ -45,18 +42,16 @@ impl State {
 }
 
 // Writes a frame into the buffer, if there is one to write, and answers its bit count.
+#[tactic(auto, unfolding(frames::specs::Octets::octets))]
 pub(crate) fn put_frame<C: Check>(fields: Option<Fields>, buffer: &mut [u8]) -> usize
     requires { 42 ≤ length buffer.old }
     ensures answer { result ≡ length (bits_of C.Check.width C.meaning (option_map packet_of fields)) }
     ensures buffer { buffer.new ≡ buffer_after (bits_of C.Check.width C.meaning (option_map packet_of fields)) buffer.old }
 {
-    match fields {
-        Some(fields) => match frames::pack::<C>(&fields, buffer) {
-            Ok(bits) => bits,
-            Err(_) => 0,
-        },
-        None => 0,
-    }
+    let Some(fields) = fields else {
+        return 0;
+    };
+    frames::pack::<C>(&fields, buffer).unwrap_or(0)
 }
 
 impl<C: Check> Boxed<C> {
@@ -66,12 +61,8 @@ impl<C: Check> Boxed<C> {
         ensures state { self.new.state ≡ tick_after self.old.state (length buffer.old) }
         ensures buffer { buffer.new ≡ tick_buffer C.Check.width C.meaning self.old.state buffer.old }
     {
-        if let Some(register) = self.state.fault {
-            return Err(Refusal::Fault(register));
-        }
-        if buffer.len() < 42 {
-            return Err(Refusal::FrameBytes);
-        }
+        self.state.ensure_sound()?;
+        ensure_frame_fits(buffer)?;
         Ok(put_frame::<C>(self.state.tick(), buffer))
     }
 
@@ -80,9 +71,7 @@ impl<C: Check> Boxed<C> {
         ensures answer { result ≡ ce_answer self.old.state }
         ensures state { self.new.state ≡ ce_after high self.old.state }
     {
-        if let Some(register) = self.state.fault {
-            return Err(Refusal::Fault(register));
-        }
+        self.state.ensure_sound()?;
         let role = role(&self.state.registers);
         self.state.core.set_ce(role, high);
         Ok(())

@@ -13,21 +13,15 @@ mod tests {
     use unit::Boxed;
 
     fn is_refused(refusal: Refusal, number: u8, register: Option<u8>) -> bool {
-        let named = match refusal.register() {
-            Some(found) => Some(found.address()),
-            None => None,
-        };
-        refusal.number() == number && named == register
+        refusal.number() == number
+            && refusal.register().map(|found| found.address()) == register
     }
 
     // The bytes wanted, and behind them what was in the buffer.
     fn begins(buffer: &[u8], wanted: &[u8]) -> bool {
-        for (i, b) in buffer.iter().enumerate() {
-            if *b != wanted.get(i).copied().unwrap_or(0xA5) {
-                return false;
-            }
-        }
-        true
+        buffer
+            .strip_prefix(wanted)
+            .is_some_and(|rest| rest.iter().all(|b| *b == 0xA5))
     }
 
     fn is_answered(res: Result<usize, Refusal>, buffer: &[u8], answer: Answer) -> bool {
@@ -40,27 +34,30 @@ mod tests {
         }
     }
 
-    fn command<C: Check>(unit: &mut Boxed<C>, bytes: &[u8], room: usize, answer: Answer) -> bool {
+    // A call with a buffer of that room.
+    fn answers<F: FnOnce(&mut [u8]) -> Result<usize, Refusal>>(
+        room: usize,
+        answer: Answer,
+        call: F,
+    ) -> bool
+        requires { F.IsAlwaysCallable call }
+    {
         let mut buffer = [0xA5; 48];
         let part = &mut buffer[..room.min(48)];
-        let result = unit.command(bytes, part);
+        let result = call(part);
         is_answered(result, part, answer)
+    }
+
+    fn command<C: Check>(unit: &mut Boxed<C>, bytes: &[u8], room: usize, answer: Answer) -> bool {
+        answers(room, answer, |part| unit.command(bytes, part))
     }
 
     fn tick<C: Check>(unit: &mut Boxed<C>, room: usize, answer: Answer) -> bool {
-        let mut buffer = [0xA5; 48];
-        let part = &mut buffer[..room.min(48)];
-        let result = unit.tick(part);
-        is_answered(result, part, answer)
+        answers(room, answer, |part| unit.tick(part))
     }
 
     fn ticks<C: Check>(unit: &mut Boxed<C>, times: usize) -> bool {
-        for _ in 0..times {
-            if !tick(unit, 42, Answer::Gives(0, &[])) {
-                return false;
-            }
-        }
-        true
+        (0..times).all(|_| tick(unit, 42, Answer::Gives(0, &[])))
     }
 
     fn hear<C: Check>(
@@ -70,17 +67,11 @@ mod tests {
         room: usize,
         answer: Answer,
     ) -> bool {
-        let mut buffer = [0xA5; 48];
-        let part = &mut buffer[..room.min(48)];
-        let result = unit.hear(frame, bits, part);
-        is_answered(result, part, answer)
+        answers(room, answer, |part| unit.hear(frame, bits, part))
     }
 
     fn ce<C: Check>(unit: &mut Boxed<C>, high: bool, answer: Answer) -> bool {
-        match unit.ce(high) {
-            Ok(()) => is_answered(Ok(0), &[], answer),
-            Err(refusal) => is_answered(Err(refusal), &[], answer),
-        }
+        is_answered(unit.ce(high).map(|()| 0), &[], answer)
     }
 
     fn holds<C: Check>(unit: &mut Boxed<C>, step: Step) -> bool {
@@ -113,106 +104,95 @@ mod tests {
         }
     }
 
+    // The same with either kind of check.
+    fn both(rt: &impl Abort, narrow: &[Step], wide: &[Step]) {
+        run::<Crc8>(rt, narrow);
+        run::<Crc16>(rt, wide);
+    }
+
     #[test]
     fn starting(rt: HostRuntime) {
-        run::<Crc8>(&rt, &STARTING_NARROW);
-        run::<Crc16>(&rt, &STARTING_WIDE);
+        both(&rt, &STARTING_NARROW, &STARTING_WIDE);
     }
 
     #[test]
     fn waiting(rt: HostRuntime) {
-        run::<Crc8>(&rt, &WAITING_NARROW);
-        run::<Crc16>(&rt, &WAITING_WIDE);
+        both(&rt, &WAITING_NARROW, &WAITING_WIDE);
     }
 
     #[test]
     fn max_rt(rt: HostRuntime) {
-        run::<Crc8>(&rt, &MAX_RT_NARROW);
-        run::<Crc16>(&rt, &MAX_RT_WIDE);
+        both(&rt, &MAX_RT_NARROW, &MAX_RT_WIDE);
     }
 
     #[test]
     fn flush_tx(rt: HostRuntime) {
-        run::<Crc8>(&rt, &FLUSH_TX_NARROW);
-        run::<Crc16>(&rt, &FLUSH_TX_WIDE);
+        both(&rt, &FLUSH_TX_NARROW, &FLUSH_TX_WIDE);
     }
 
     #[test]
     fn acknowledged(rt: HostRuntime) {
-        run::<Crc8>(&rt, &ACKNOWLEDGED_NARROW);
-        run::<Crc16>(&rt, &ACKNOWLEDGED_WIDE);
+        both(&rt, &ACKNOWLEDGED_NARROW, &ACKNOWLEDGED_WIDE);
     }
 
     #[test]
     fn identities(rt: HostRuntime) {
-        run::<Crc8>(&rt, &IDENTITIES_NARROW);
-        run::<Crc16>(&rt, &IDENTITIES_WIDE);
+        both(&rt, &IDENTITIES_NARROW, &IDENTITIES_WIDE);
     }
 
     #[test]
     fn power(rt: HostRuntime) {
-        run::<Crc8>(&rt, &POWER_NARROW);
-        run::<Crc16>(&rt, &POWER_WIDE);
+        both(&rt, &POWER_NARROW, &POWER_WIDE);
     }
 
     #[test]
     fn refusals_of_sender(rt: HostRuntime) {
-        run::<Crc8>(&rt, &REFUSALS_OF_SENDER_NARROW);
-        run::<Crc16>(&rt, &REFUSALS_OF_SENDER_WIDE);
+        both(&rt, &REFUSALS_OF_SENDER_NARROW, &REFUSALS_OF_SENDER_WIDE);
     }
 
     #[test]
     fn refusals_of_receiver(rt: HostRuntime) {
-        run::<Crc8>(&rt, &REFUSALS_OF_RECEIVER_NARROW);
-        run::<Crc16>(&rt, &REFUSALS_OF_RECEIVER_WIDE);
+        both(&rt, &REFUSALS_OF_RECEIVER_NARROW, &REFUSALS_OF_RECEIVER_WIDE);
     }
 
     #[test]
     fn faults(rt: HostRuntime) {
-        run::<Crc8>(&rt, &FAULTS_NARROW);
-        run::<Crc16>(&rt, &FAULTS_WIDE);
+        both(&rt, &FAULTS_NARROW, &FAULTS_WIDE);
     }
 
     #[test]
     fn readout(rt: HostRuntime) {
-        run::<Crc8>(&rt, &READOUT_NARROW);
-        run::<Crc16>(&rt, &READOUT_WIDE);
+        both(&rt, &READOUT_NARROW, &READOUT_WIDE);
     }
 
     #[test]
     fn hearing(rt: HostRuntime) {
-        run::<Crc8>(&rt, &HEARING_NARROW);
-        run::<Crc16>(&rt, &HEARING_WIDE);
+        both(&rt, &HEARING_NARROW, &HEARING_WIDE);
     }
 
     #[test]
     fn repeats(rt: HostRuntime) {
-        run::<Crc8>(&rt, &REPEATS_NARROW);
-        run::<Crc16>(&rt, &REPEATS_WIDE);
+        both(&rt, &REPEATS_NARROW, &REPEATS_WIDE);
     }
 
     #[test]
     fn memories(rt: HostRuntime) {
-        run::<Crc8>(&rt, &MEMORIES_NARROW);
-        run::<Crc16>(&rt, &MEMORIES_WIDE);
+        both(&rt, &MEMORIES_NARROW, &MEMORIES_WIDE);
     }
 
     #[test]
     fn interrupts(rt: HostRuntime) {
-        run::<Crc8>(&rt, &INTERRUPTS_NARROW);
-        run::<Crc16>(&rt, &INTERRUPTS_WIDE);
+        both(&rt, &INTERRUPTS_NARROW, &INTERRUPTS_WIDE);
     }
 
     #[test]
     fn ce_of_sender(rt: HostRuntime) {
-        run::<Crc8>(&rt, &CE_OF_SENDER_NARROW);
-        run::<Crc16>(&rt, &CE_OF_SENDER_WIDE);
+        both(&rt, &CE_OF_SENDER_NARROW, &CE_OF_SENDER_WIDE);
     }
 
     #[test]
     fn ce_of_receiver(rt: HostRuntime) {
-        run::<Crc8>(&rt, &CE_OF_RECEIVER_NARROW);
-        run::<Crc16>(&rt, &CE_OF_RECEIVER_WIDE);
+        both(&rt, &CE_OF_RECEIVER_NARROW, &CE_OF_RECEIVER_WIDE);
     }
 
     #[test]

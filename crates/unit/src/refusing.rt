@@ -1,0 +1,31 @@
+// What refuses a call before all else.
+ghost use Rattle.std.specs.Prelude.{◌≡◌, [], ◌∷◌, length, nat_lt};
+ghost use Rattle.commands.specs.declared.refusal.Refusal.TheVariants.{FrameBytes};
+ghost use Rattle.commands.specs.Refusals.{first_of, unless};
+ghost use Rattle.unit.specs.Units.{fault_refusal};
+
+use crate::state::State;
+use commands::Refusal;
+
+impl State {
+    // A unit that was boxed with a fault refuses every call.
+    pub(crate) fn ensure_sound(&self) -> Result<(), Refusal>
+        ensures { result ≡ unless (fault_refusal self.now) tt }
+    {
+        match self.fault {
+            Some(register) => Err(Refusal::Fault(register)),
+            None => Ok(()),
+        }
+    }
+}
+
+// There is room for the longest frame.
+pub(crate) fn ensure_frame_fits(buffer: &[u8]) -> Result<(), Refusal>
+    ensures { result ≡ unless (first_of ((nat_lt (length buffer.now) 42, FrameBytes) ∷ [])) tt }
+{
+    if buffer.len() < 42 {
+        Err(Refusal::FrameBytes)
+    } else {
+        Ok(())
+    }
+}
