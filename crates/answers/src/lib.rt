@@ -4,5 +4,5 @@
 mod profiles;
 mod texts;
 
-pub use profiles::Profile;
+pub use profiles::ProfileRows;
 pub use texts::{Lacking, Refused, Said, front};

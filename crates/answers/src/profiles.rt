@@ -34,9 +34,9 @@ impl fmt::Display for Row<'_> {
 
 // A profile: a line for each register that it names, if it is sound. Nothing where map or length are wrong.
 #[derive(Clone, Copy)]
-pub struct Profile<'a>(pub &'a [u8]);
+pub struct ProfileRows<'a>(pub &'a [u8]);
 
-impl fmt::Display for Profile<'_> {
+impl fmt::Display for ProfileRows<'_> {
     ghost output = { λ x. Some (profile_rows x.0.now) };
 
     fn fmt<W: fmt::Write>(&self, f: &mut fmt::Formatter<W>) -> fmt::Result {

@@ -83,7 +83,7 @@ impl fmt::Display for Said<'_> {
 }
 
 // What the unit under a label lacks to do what a line asks.
-#[derive(Clone, Copy)]
+#[derive(Clone, Copy, Debug, PartialEq, Eq)]
 pub struct Lacking {
     pub label: u8,
     pub lack: Lack,

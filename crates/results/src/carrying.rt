@@ -56,18 +56,6 @@ fn packed<'a>(kind: Kind, fields: &Fields) -> Answer<'a>
     Answer::Frame { bits, buffer }
 }
 
-fn heard<'a>(kind: Kind, frame: &[u8], count: usize, width: AddressWidth) -> Answer<'a>
-    ensures { outcome_of result ≡ read_outcome kind (width_of width) count frame.now }
-{
-    Answer::Read(read_as(kind, frame, count, width))
-}
-
-fn field(register: u8, profile: &[u8]) -> Answer<'_>
-    ensures { outcome_of result ≡ field_outcome register profile.now }
-{
-    Answer::Field(profile::field(profile, register))
-}
-
 fn done_with<'a>(units: &mut Units, line: &'a Line) -> Result<Answer<'a>, Cannot>
     ensures answer { Means outcome_of result (carried units.old (asked line.now)) }
     ensures units { units.new ≡ units_after_request units.old (asked line.now) }
@@ -79,9 +67,12 @@ fn done_with<'a>(units: &mut Units, line: &'a Line) -> Result<Answer<'a>, Cannot
         }
         Line::Pack(fields) => Ok(packed(units.kind(), fields)),
         Line::Read { width, bits, bytes } => {
-            Ok(heard(units.kind(), bytes, usize::from(*bits), *width))
+            let (kind, count) = (units.kind(), usize::from(*bits));
+            Ok(Answer::Read(read_as(kind, bytes, count, *width)))
         }
-        Line::Field { register, profile } => Ok(field(*register, profile)),
+        Line::Field { register, profile } => {
+            Ok(Answer::Field(profile::field(profile, *register)))
+        }
         Line::Unit { label, line } => {
             let label = *label;
             let result = units.call(label, line).map_err(|lack| Cannot::Unit {

@@ -46,11 +46,7 @@ impl fmt::Display for Answer<'_> {
             }
             Answer::Read(Ok(Some(heard))) => write!(f, "{}", Packet(&heard.fields)),
             Answer::Read(Ok(None)) => f.write_str("ok nothing"),
-            Answer::Read(Err(refusal)) => write!(
-                f,
-                "refused {} (bits beyond the frame's bytes)",
-                refusal.number()
-            ),
+            Answer::Read(Err(refusal)) => write!(f, "refused {} ({refusal})", refusal.number()),
             Answer::Field(Ok(Some(bytes))) => write!(f, "ok{}", Apart(bytes)),
             Answer::Field(Ok(None)) => f.write_str("ok absent"),
             Answer::Field(Err(refusal)) => write!(f, "{}", Refused(*refusal)),
@@ -98,7 +94,7 @@ fn wish(wanted: Wanted) -> &'static str
 }
 
 // The result of a line that cannot be carried out, with the reason.
-#[derive(Clone, Copy)]
+#[derive(Clone, Copy, Debug, PartialEq, Eq)]
 pub struct Unable(pub Cannot);
 
 impl fmt::Display for Unable {

@@ -6,7 +6,7 @@ ghost use Rattle.results.specs.Outcomes.{outcome_of};
 ghost use Rattle.results.specs.Texts.{cannot_text};
 ghost use Rattle.script.specs.Console.{explained, answer_text, request_text, line_text, after_request, after_line, started, printed, after};
 
-use answers::Profile;
+use answers::ProfileRows;
 use desk::Units;
 use requests::{Cannot, Kind, Line, Stop, UnitLine, parse};
 use results::{Answer, FrameRows, Unable, carry_out};
@@ -48,14 +48,14 @@ impl fmt::Display for Explained<'_> {
                 };
                 write!(f, "{frame}")
             }
-            (Line::Field { profile, .. }, _) => write!(f, "{}", Profile(profile)),
+            (Line::Field { profile, .. }, _) => write!(f, "{}", ProfileRows(profile)),
             (
                 Line::Unit {
                     line: UnitLine::Load { profile },
                     ..
                 },
                 _,
-            ) => write!(f, "{}", Profile(profile)),
+            ) => write!(f, "{}", ProfileRows(profile)),
             _ => Ok(()),
         }
     }

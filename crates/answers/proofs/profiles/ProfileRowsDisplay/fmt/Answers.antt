@@ -2,7 +2,7 @@ use Rattle.std.proofs.Common.{◌≡◌, take, length, sym, ap, subst, ◌<◌, 
 use Rattle.std.proofs.Output.{has_written_append, has_written_of_eq}
 use Rattle.answers.specs.Profiles.{rows_of}
 use Rattle.answers.proofs.Rows.{row_more}
-use Rattle.answers.proofs.profiles.ProfileDisplay.fmt.Goals as goal
+use Rattle.answers.proofs.profiles.ProfileRowsDisplay.fmt.Goals as goal
 
 pub loop-register-preserved : goal.loop-register-preserved
 loop-register-preserved g c = λ plain.
