@@ -1,4 +1,4 @@
-pub mod Serve
 pub mod Walk
 pub mod Loads
 pub mod Lowest
+pub mod Pipes

@@ -1,28 +1,12 @@
 -- The first register with a fault is the lowest.
-use Rattle.std.proofs.Common.{◌≡◌, ℕ, suc, ◌+◌, ◌<◌, ◌≤◌, Bool, true, false, cond, ◌&&◌, ◌||◌, eqb, ◌⊎◌, List, [], ◌∷◌, drop, Some, None, Option, sym, refl, ap, ◌∙◌, subst, inl, inr, arith}
+use Rattle.std.proofs.Common.{◌≡◌, ℕ, suc, ◌<◌, ◌≤◌, Bool, true, false, cond, ◌&&◌, ◌||◌, eqb, ◌⊎◌, List, [], ◌∷◌, Some, None, Option, sym, refl, subst, inl, inr, arith}
 use Rattle.std.proofs.lemmas.Bool.{eqb-true}
 use Rattle.registers.specs.declared.register.Register.{Register}
 use Rattle.registers.specs.declared.held.Registers.{Registers}
-use Rattle.registers.specs.Address.{address_of, registers, register_at}
+use Rattle.registers.specs.Address.{address_of, registers}
 use Rattle.registers.proofs.Holding.{one_address}
 use Rattle.bench.specs.Checking.{faulty, first_faulty, fault_of, LowestFault}
-use Rattle.bench.proofs.Walk.{next}
 use Rattle.bench.proofs.Loads.{among, all_among}
-
--- ---- one turn of the search
-
-module _ (bad : Register → Bool) (i : ℕ) (r : Register) (e : Some r ≡ register_at i) where
-  opened : first_faulty bad (drop i registers) ≡ cond (bad r) (Some r) (first_faulty bad (drop (i + 1) registers))
-  unfolding first_faulty
-  opened = ap (first_faulty bad) (next i r e)
-
-  pub found : true ≡ bad r → first_faulty bad (drop i registers) ≡ Some r
-  found h = opened ∙ ap (λ (b : Bool). cond b (Some r) (first_faulty bad (drop (i + 1) registers))) (sym h)
-
-  pub passed_over : false ≡ bad r → first_faulty bad (drop i registers) ≡ first_faulty bad (drop (i + 1) registers)
-  passed_over h = opened ∙ ap (λ (b : Bool). cond b (Some r) (first_faulty bad (drop (i + 1) registers))) (sym h)
-
--- ---- ascending addresses
 
 -- the registers of a list have the addresses from k on
 aligned : ℕ → List Register → Bool

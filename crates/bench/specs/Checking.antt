@@ -1,5 +1,6 @@
 -- The check call: what is wrong with a unit's registers before it is boxed.
 use Rattle.std.specs.Prelude.{◌≡◌, ℕ, ◌<◌, Bool, true, false, cond, not, ◌&&◌, ◌||◌, List, [], ◌∷◌, take, Some, None, Ok, Err, Option, Result, ◌==◌}
+use Rattle.std.specs.List.{list_any}
 use Rattle.std.specs.Str.{bytes_eq}
 use Rattle.registers.specs.declared.pipe.Pipe.{Pipe}
 use Rattle.registers.specs.declared.pipe.Pipe.TheVariants.{P0, P1, P2, P3, P4, P5}
@@ -9,7 +10,7 @@ use Rattle.registers.specs.declared.held.Registers.{Registers}
 use Rattle.registers.specs.Address.{address_of, registers}
 use Rattle.registers.specs.Bits.{bit}
 use Rattle.registers.specs.File.{value_of, byte_of}
-use Rattle.registers.specs.Pipes.{index_of, width_register}
+use Rattle.registers.specs.Pipes.{index_of, pipes, width_register}
 use Rattle.registers.specs.Readings.{width_of, pipe_address}
 use Rattle.commands.specs.declared.refusal.Refusal.{Refusal}
 use Rattle.commands.specs.declared.refusal.Refusal.TheVariants.{Fault}
@@ -33,11 +34,7 @@ abbrev pub in_use : Registers → List ℕ → List ℕ
 in_use f address = take (width_of (byte_of f SetupAw)) address
 
 abbrev pub some_pipe : List Pipe → (Pipe → Bool) → Bool
-some_pipe [] holds = false
-some_pipe (p ∷ ps) holds = holds p || some_pipe ps holds
-
-abbrev pub pipes : List Pipe
-pipes = P0 ∷ (P1 ∷ (P2 ∷ (P3 ∷ (P4 ∷ (P5 ∷ [])))))
+some_pipe ps holds = list_any holds ps
 
 abbrev pub lower : Pipe → List Pipe
 lower P0 = []

@@ -1,5 +1,5 @@
 -- Loading a profile onto a bench unit.
-use Rattle.std.specs.Prelude.{◌≡◌, ℕ, Bool, false, not, List, [], ◌∷◌, map, Some, None, Option}
+use Rattle.std.specs.Prelude.{◌≡◌, ℕ, Bool, false, not, List, [], ◌∷◌, map, Some, None, Option, ◌≢◌}
 use Rattle.registers.specs.declared.register.Register.{Register}
 use Rattle.registers.specs.declared.held.Registers.{Registers}
 use Rattle.registers.specs.Address.{address_of, registers}
@@ -51,3 +51,13 @@ abbrev pub Loaded : List ℕ → Registers → Registers → Type 0
 Loaded p before after =
     (load_refusal p ≡ None → (q : Register) → value_of after q ≡ field_or (field p q) (value_of before q))
     × ((e : Refusal) → load_refusal p ≡ Some e → after ≡ before)
+
+-- what the field of one register does: the register holds it, if it takes it, and every other what it held
+pub record Fills (before : Registers) (r : Register) (o : Option (List ℕ)) (after : Registers) : Type 0 where
+  pub there : refuses r o ≡ false → value_of after r ≡ field_or o (value_of before r)
+  pub elsewhere : (q : Register) → (q ≢ r) → value_of after q ≡ value_of before q
+
+-- what all fields do, if each register takes its own
+abbrev pub FillsAll : List ℕ → Registers → Registers → Type 0
+FillsAll p before after =
+    ((q : Register) → refuses q (field p q) ≡ false) → (q : Register) → value_of after q ≡ field_or (field p q) (value_of before q)

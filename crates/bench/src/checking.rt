@@ -1,5 +1,5 @@
 // The check before boxing.
-ghost use Rattle.std.specs.Prelude.{◌≡◌, ◌≤◌, take};
+ghost use Rattle.std.specs.Prelude.{◌≡◌, ◌≤◌, length, take};
 ghost use Rattle.std.specs.Str.{bytes_eq};
 ghost use Rattle.bench.specs.Checking.{config_fault, unanswered, en_aa_fault, en_rxaddr_fault, same_address, some_pipe, lower, address_fault, tx_addr_fault, width_fault, faulty, fault_of, check_answer, LowestFault};
 
@@ -25,12 +25,7 @@ fn en_aa_fault(file: &Registers) -> bool
     ensures { result ≡ en_aa_fault file.now }
 {
     if file.is_receiver() {
-        is_unanswered(file, Pipe::P0)
-            || is_unanswered(file, Pipe::P1)
-            || is_unanswered(file, Pipe::P2)
-            || is_unanswered(file, Pipe::P3)
-            || is_unanswered(file, Pipe::P4)
-            || is_unanswered(file, Pipe::P5)
+        Pipe::all().iter().any(|pipe| is_unanswered(file, *pipe))
     } else {
         is_unanswered(file, Pipe::P0)
     }
@@ -40,23 +35,19 @@ fn en_rxaddr_fault(file: &Registers) -> bool
     ensures { result ≡ en_rxaddr_fault file.now }
 {
     if file.is_receiver() {
-        !(file.is_enabled(Pipe::P0)
-            || file.is_enabled(Pipe::P1)
-            || file.is_enabled(Pipe::P2)
-            || file.is_enabled(Pipe::P3)
-            || file.is_enabled(Pipe::P4)
-            || file.is_enabled(Pipe::P5))
+        !Pipe::all().iter().any(|pipe| file.is_enabled(*pipe))
     } else {
         !file.is_enabled(Pipe::P0)
     }
 }
 
 // Whether two addresses are alike in their low bytes.
-fn is_alike(a: &[u8; 5], b: &[u8; 5], width: usize) -> bool
-    requires { width ≤ 5 }
+fn is_alike(a: &[u8], b: &[u8], width: usize) -> bool
+    requires first { width ≤ length a.now }
+    requires second { width ≤ length b.now }
     ensures { result ≡ bytes_eq (take width a.now) (take width b.now) }
 {
-    a[0..width] == b[0..width]
+    a[..width] == b[..width]
 }
 
 // Whether the lower pipe is enabled and has the address in use of the other.
@@ -75,29 +66,9 @@ fn has_address_of(file: &Registers, pipe: Pipe, low: Pipe) -> bool
 fn is_taken(file: &Registers, pipe: Pipe) -> bool
     ensures { result ≡ some_pipe (lower pipe) (same_address file.now pipe) }
 {
-    match pipe {
-        Pipe::P0 => false,
-        Pipe::P1 => has_address_of(file, pipe, Pipe::P0),
-        Pipe::P2 => has_address_of(file, pipe, Pipe::P0) || has_address_of(file, pipe, Pipe::P1),
-        Pipe::P3 => {
-            has_address_of(file, pipe, Pipe::P0)
-                || has_address_of(file, pipe, Pipe::P1)
-                || has_address_of(file, pipe, Pipe::P2)
-        }
-        Pipe::P4 => {
-            has_address_of(file, pipe, Pipe::P0)
-                || has_address_of(file, pipe, Pipe::P1)
-                || has_address_of(file, pipe, Pipe::P2)
-                || has_address_of(file, pipe, Pipe::P3)
-        }
-        Pipe::P5 => {
-            has_address_of(file, pipe, Pipe::P0)
-                || has_address_of(file, pipe, Pipe::P1)
-                || has_address_of(file, pipe, Pipe::P2)
-                || has_address_of(file, pipe, Pipe::P3)
-                || has_address_of(file, pipe, Pipe::P4)
-        }
-    }
+    Pipe::all()[..usize::from(pipe.index())]
+        .iter()
+        .any(|low| has_address_of(file, pipe, *low))
 }
 
 fn address_fault(file: &Registers, pipe: Pipe) -> bool
@@ -115,12 +86,12 @@ fn width_fault(file: &Registers, pipe: Pipe) -> bool
 fn tx_addr_fault(file: &Registers) -> bool
     ensures { result ≡ tx_addr_fault file.now }
 {
-    if file.is_receiver() {
-        return false;
-    }
-    let mut tx = [0; 5];
-    tx.copy_from_slice(file.value(Register::TxAddr));
-    !is_alike(&tx, &file.pipe_address(Pipe::P0), file.address_width())
+    !file.is_receiver()
+        && !is_alike(
+            file.value(Register::TxAddr),
+            &file.pipe_address(Pipe::P0),
+            file.address_width(),
+        )
 }
 
 // Whether the register has a fault, for a check of that width.
@@ -131,19 +102,11 @@ fn is_faulty(file: &Registers, register: Register, width: usize) -> bool
         Register::Config => config_fault(file, width),
         Register::EnAa => en_aa_fault(file),
         Register::EnRxaddr => en_rxaddr_fault(file),
-        Register::RxAddrP1 => address_fault(file, Pipe::P1),
-        Register::RxAddrP2 => address_fault(file, Pipe::P2),
-        Register::RxAddrP3 => address_fault(file, Pipe::P3),
-        Register::RxAddrP4 => address_fault(file, Pipe::P4),
-        Register::RxAddrP5 => address_fault(file, Pipe::P5),
         Register::TxAddr => tx_addr_fault(file),
-        Register::RxPwP0 => width_fault(file, Pipe::P0),
-        Register::RxPwP1 => width_fault(file, Pipe::P1),
-        Register::RxPwP2 => width_fault(file, Pipe::P2),
-        Register::RxPwP3 => width_fault(file, Pipe::P3),
-        Register::RxPwP4 => width_fault(file, Pipe::P4),
-        Register::RxPwP5 => width_fault(file, Pipe::P5),
-        _ => false,
+        _ => Pipe::all().iter().any(|pipe| {
+            register == pipe.address_register() && address_fault(file, *pipe)
+                || register == pipe.width_register() && width_fault(file, *pipe)
+        }),
     }
 }
 
@@ -151,14 +114,10 @@ fn is_faulty(file: &Registers, register: Register, width: usize) -> bool
 fn lowest_fault(file: &Registers, width: usize) -> Option<Register>
     ensures { result ≡ fault_of width file.now }
 {
-    for address in 0..24 {
-        if let Some(register) = Register::at(address) {
-            if is_faulty(file, register, width) {
-                return Some(register);
-            }
-        }
-    }
-    None
+    Register::all()
+        .iter()
+        .find(|register| is_faulty(file, **register, width))
+        .copied()
 }
 
 impl Bench {
@@ -174,9 +133,7 @@ impl Bench {
     pub fn check<C: Check>(&self) -> Result<(), Refusal>
         ensures { result ≡ check_answer (fault_of C.Check.width self.now.registers) }
     {
-        match self.fault::<C>() {
-            Some(register) => Err(Refusal::Fault(register)),
-            None => Ok(()),
-        }
+        self.fault::<C>()
+            .map_or(Ok(()), |register| Err(Refusal::Fault(register)))
     }
 }

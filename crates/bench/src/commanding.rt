@@ -1,7 +1,8 @@
 // Host commands on a bench unit.
 ghost use Rattle.std.specs.Prelude.{◌≡◌, length, Ok};
+ghost use Rattle.registers.specs.Table.{size_of};
 ghost use Rattle.registers.specs.File.{at_reset};
-ghost use Rattle.commands.specs.Decode.{ordered, read_register, write_register, nop};
+ghost use Rattle.commands.specs.Decode.{ordered, write_register};
 ghost use Rattle.bench.specs.Commands.{stored, command_answer, registers_after, reply_after};
 
 use crate::live::Live;
@@ -14,7 +15,7 @@ use registers::{Register, Registers};
 fn store(registers: &mut Registers, register: Register, value: &[u8])
     ensures { registers.new ≡ stored registers.old (write_register register value.now) }
 {
-    if register.address() != 0x07 {
+    if register != Register::Status {
         registers.write(register, value);
     }
 }
@@ -29,31 +30,18 @@ impl Bench {
         }
     }
 
-    // R_REGISTER.
-    fn read(&self, register: Register, data: &[u8], buffer: &mut [u8]) -> Result<usize, Refusal>
-        ensures answer { result ≡ command_answer self.now.registers (length buffer.old) (Ok (read_register register «data».now)) }
-        ensures reply { buffer.new ≡ reply_after self.now.registers buffer.old (Ok (read_register register «data».now)) }
-    {
-        if !data.is_empty() {
-            return Err(Refusal::DataLength);
-        }
-        reply_register(&self.registers, Live::at_rest(), register, buffer)
-    }
-
-    // W_REGISTER.
+    // W_REGISTER, with as many bytes as the register holds.
     fn write(
         &mut self,
         register: Register,
         data: &[u8],
         buffer: &mut [u8],
     ) -> Result<usize, Refusal>
+        requires { length «data».now ≡ size_of register }
         ensures answer { result ≡ command_answer self.old.registers (length buffer.old) (Ok (write_register register «data».now)) }
         ensures registers { self.new.registers ≡ registers_after self.old.registers (length buffer.old) (Ok (write_register register «data».now)) }
         ensures reply { buffer.new ≡ reply_after self.old.registers buffer.old (Ok (write_register register «data».now)) }
     {
-        if data.len() != register.size() {
-            return Err(Refusal::DataLength);
-        }
         if buffer.is_empty() {
             return Err(Refusal::ReplyRoom);
         }
@@ -67,28 +55,24 @@ impl Bench {
         reply(buffer, Live::at_rest().status, &[])
     }
 
-    // NOP.
-    fn nop(&self, data: &[u8], buffer: &mut [u8]) -> Result<usize, Refusal>
-        ensures answer { result ≡ command_answer self.now.registers (length buffer.old) (Ok (nop «data».now)) }
-        ensures reply { buffer.new ≡ reply_after self.now.registers buffer.old (Ok (nop «data».now)) }
-    {
-        if !data.is_empty() {
-            return Err(Refusal::DataLength);
-        }
-        reply(buffer, Live::at_rest().status, &[])
-    }
-
     // Carries out a host command and answers the length of the reply; register commands and NOP are served.
     pub fn command(&mut self, bytes: &[u8], buffer: &mut [u8]) -> Result<usize, Refusal>
         ensures answer { result ≡ command_answer self.old.registers (length buffer.old) (ordered bytes.now) }
         ensures registers { self.new.registers ≡ registers_after self.old.registers (length buffer.old) (ordered bytes.now) }
         ensures reply { buffer.new ≡ reply_after self.old.registers buffer.old (ordered bytes.now) }
     {
-        match decode(bytes)? {
-            Command::ReadRegister(register, data) => self.read(register, data, buffer),
+        let command = decode(bytes)?;
+        match command {
+            Command::WritePayload(_)
+            | Command::ReadPayload(_)
+            | Command::FlushTx(_)
+            | Command::FlushRx(_) => Err(Refusal::NotForUnit),
+            _ if !command.data_fits() => Err(Refusal::DataLength),
+            Command::ReadRegister(register, _) => {
+                reply_register(&self.registers, Live::at_rest(), register, buffer)
+            }
             Command::WriteRegister(register, data) => self.write(register, data, buffer),
-            Command::Nop(data) => self.nop(data, buffer),
-            _ => Err(Refusal::NotForUnit),
+            Command::Nop(_) => reply(buffer, Live::at_rest().status, &[]),
         }
     }
 }

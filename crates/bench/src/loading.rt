@@ -1,61 +1,68 @@
 // Loading a profile.
-ghost use Rattle.std.specs.Prelude.{◌≡◌, true, not};
+ghost use Rattle.std.specs.Prelude.{◌≡◌, not};
+ghost use Rattle.std.specs.Option.{option_map};
 ghost use Rattle.registers.specs.Address.{registers};
+ghost use Rattle.commands.specs.declared.refusal.Refusal.TheVariants.{NotAllowed};
 ghost use Rattle.commands.specs.Refusals.{first_of, unless};
-ghost use Rattle.profile.specs.Profile.{sound};
-ghost use Rattle.bench.specs.Loading.{field, refuses, field_refusals, load_refusal, with_field, fields_written, load_after, Loaded};
+ghost use Rattle.profile.specs.Reading.{bytes_of};
+ghost use Rattle.bench.specs.Loading.{field, refuses, field_refusals, load_refusal, with_field, fields_written, load_after, Fills, FillsAll, Loaded};
 
 use crate::unit::Bench;
 use commands::Refusal;
-use profile::number_of_fields;
+use profile::Profile;
 use registers::{Register, Registers};
 
 // Whether the register takes the field that the profile has for it, if there is one.
-fn takes_field(register: Register, profile: &[u8]) -> bool
-    requires { sound profile.now ≡ true }
-    ensures { result ≡ not (refuses register (field profile.now register)) }
+fn takes_field(register: Register, profile: &Profile) -> bool
+    ensures { result ≡ not (refuses register (field (bytes_of profile.now) register)) }
 {
-    match profile::field(profile, register.address()) {
-        Ok(Some(value)) => register.allows(value),
-        _ => true,
-    }
+    profile
+        .field(register)
+        .is_none_or(|value| register.allows(value))
 }
 
 // Writes the field that the profile has for the register, if there is one.
-fn write_field(file: &mut Registers, register: Register, profile: &[u8])
-    requires { sound profile.now ≡ true }
-    ensures { file.new ≡ with_field file.old register (field profile.now register) }
+fn write_field(file: &mut Registers, register: Register, profile: &Profile)
+    ensures after { file.new ≡ with_field file.old register (field (bytes_of profile.now) register) }
+    ensures law { Fills file.old register (field (bytes_of profile.now) register) file.new }
 {
-    if let Ok(Some(value)) = profile::field(profile, register.address()) {
+    if let Some(value) = profile.field(register) {
         file.write(register, value);
     }
 }
 
-// The first field, by ascending register, that its register does not take.
-fn refused_field(profile: &[u8]) -> Option<Refusal>
-    requires { sound profile.now ≡ true }
-    ensures { result ≡ first_of (field_refusals profile.now registers) }
+// The lowest register that does not take its field.
+fn refused_field(profile: &Profile) -> Option<Register>
+    ensures { option_map (λ r. NotAllowed r) result ≡ first_of (field_refusals (bytes_of profile.now) registers) }
 {
-    for address in 0..24 {
-        if let Some(register) = Register::at(address) {
-            if !takes_field(register, profile) {
-                return Some(Refusal::NotAllowed(register));
-            }
-        }
-    }
-    None
+    Register::all()
+        .iter()
+        .find(|register| !takes_field(**register, profile))
+        .copied()
 }
 
 // Writes all fields, by ascending register.
-fn write_fields(file: &mut Registers, profile: &[u8])
-    requires { sound profile.now ≡ true }
-    ensures { file.new ≡ fields_written registers profile.now file.old }
+fn write_fields(file: &mut Registers, profile: &Profile)
+    ensures after { file.new ≡ fields_written registers (bytes_of profile.now) file.old }
+    ensures law { FillsAll (bytes_of profile.now) file.old file.new }
 {
-    for address in 0..24 {
-        if let Some(register) = Register::at(address) {
-            write_field(file, register, profile);
-        }
+    for register in Register::all() {
+        write_field(file, register, profile);
     }
+}
+
+// Loads a profile: all of its fields, or none.
+fn load(file: &mut Registers, profile: &[u8]) -> Result<(), Refusal>
+    ensures answer { result ≡ unless (load_refusal profile.now) tt }
+    ensures registers { file.new ≡ load_after profile.now file.old }
+    ensures law { Loaded profile.now file.old file.new }
+{
+    let profile = Profile::read(profile)?;
+    if let Some(register) = refused_field(&profile) {
+        return Err(Refusal::NotAllowed(register));
+    }
+    write_fields(file, &profile);
+    Ok(())
 }
 
 impl Bench {
@@ -66,16 +73,7 @@ impl Bench {
         ensures law { Loaded profile.now self.registers result.0.registers }
     {
         let mut unit = self;
-        let _all = unit.registers.count();
-        match number_of_fields(profile) {
-            Err(refusal) => (unit, Err(refusal)),
-            Ok(_) => match refused_field(profile) {
-                Some(refusal) => (unit, Err(refusal)),
-                None => {
-                    write_fields(&mut unit.registers, profile);
-                    (unit, Ok(()))
-                }
-            },
-        }
+        let answer = load(&mut unit.registers, profile);
+        (unit, answer)
     }
 }

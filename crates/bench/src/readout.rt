@@ -30,11 +30,11 @@ pub fn reply_register(
     ensures answer { result ≡ reply_answer buffer.old (shown live registers.now register) }
     ensures after { buffer.new ≡ replied buffer.old live.status (shown live registers.now register) }
 {
-    match register.address() {
-        0x07 => reply(buffer, live.status, &[live.status]),
-        0x08 => reply(buffer, live.status, &[live.observe_tx]),
-        0x09 => reply(buffer, live.status, &[0x00]),
-        0x17 => reply(buffer, live.status, &[live.fifo_status]),
+    match register {
+        Register::Status => reply(buffer, live.status, &[live.status]),
+        Register::ObserveTx => reply(buffer, live.status, &[live.observe_tx]),
+        Register::Reserved => reply(buffer, live.status, &[0x00]),
+        Register::FifoStatus => reply(buffer, live.status, &[live.fifo_status]),
         _ => reply(buffer, live.status, registers.value(register)),
     }
 }

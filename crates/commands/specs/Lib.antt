@@ -2,3 +2,4 @@ pub mod Decode
 pub mod Refusals
 pub mod Reply
 pub mod Status
+pub mod Texts

@@ -10,14 +10,8 @@ fn command(first: u8, data: &[u8]) -> Result<Command<'_>, Refusal>
     ensures { told result ≡ order_of first «data».now }
 {
     match first {
-        byte if byte < 0x20 => match Register::at(byte) {
-            Some(register) => Ok(Command::ReadRegister(register, data)),
-            None => Err(Refusal::Unknown),
-        },
-        byte @ 0x20..=0x3F => match Register::at(byte - 0x20) {
-            Some(register) => Ok(Command::WriteRegister(register, data)),
-            None => Err(Refusal::Unknown),
-        },
+        0x00..=0x1F => Ok(Command::ReadRegister(Register::try_from(first)?, data)),
+        0x20..=0x3F => Ok(Command::WriteRegister(Register::try_from(first - 0x20)?, data)),
         0x61 => Ok(Command::ReadPayload(data)),
         0xA0 => Ok(Command::WritePayload(data)),
         0xE1 => Ok(Command::FlushTx(data)),
@@ -28,6 +22,7 @@ fn command(first: u8, data: &[u8]) -> Result<Command<'_>, Refusal>
 }
 
 // The command that the first of the host's bytes stands for, with the others as its data: they are those very bytes.
+#[tactic(auto, unfolding(crate::specs::Decode::ordered))]
 pub fn decode(bytes: &[u8]) -> Result<Command<'_>, Refusal>
     ensures { told result ≡ ordered bytes.now }
 {
@@ -44,12 +39,12 @@ impl Command<'_> {
     {
         match self {
             Command::WriteRegister(register, data) => data.len() == register.size(),
-            Command::WritePayload(data) => 1 <= data.len() && data.len() <= 32,
-            Command::ReadRegister(_, data) => data.is_empty(),
-            Command::ReadPayload(data) => data.is_empty(),
-            Command::FlushTx(data) => data.is_empty(),
-            Command::FlushRx(data) => data.is_empty(),
-            Command::Nop(data) => data.is_empty(),
+            Command::WritePayload(data) => (1..=32).contains(&data.len()),
+            Command::ReadRegister(_, data)
+            | Command::ReadPayload(data)
+            | Command::FlushTx(data)
+            | Command::FlushRx(data)
+            | Command::Nop(data) => data.is_empty(),
         }
     }
 }

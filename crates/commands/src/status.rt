@@ -1,15 +1,8 @@
-ghost use Rattle.std.specs.Prelude.{◌≡◌, if◌then◌else◌};
+ghost use Rattle.std.specs.Prelude.{◌≡◌};
 ghost use Rattle.commands.specs.Status.{no_flags, status_of, cleared, observed, fifo_of, irq_of, LowWhen, Rests};
 
 use crate::flags::Flags;
 use registers::{Pipe, stands};
-
-// `weight` where the bit stands, else 0.
-fn weight(stands: bool, weight: u8) -> u8
-    ensures { result ≡ (if stands then weight else 0) }
-{
-    if stands { weight } else { 0 }
-}
 
 impl Flags {
     // No flag stands: with none, nothing received, nothing lost and empty queues, a unit shows its reset values.
@@ -40,15 +33,12 @@ impl Flags {
 pub fn status_byte(flags: Flags, pipe: Option<Pipe>, tx_full: bool) -> u8
     ensures { result ≡ status_of flags pipe tx_full }
 {
-    let index = match pipe {
-        Some(pipe) => pipe.index(),
-        None => 7,
-    };
-    weight(flags.rx_dr, 64)
-        + weight(flags.tx_ds, 32)
-        + weight(flags.max_rt, 16)
+    let index = pipe.map_or(7, Pipe::index);
+    64 * u8::from(flags.rx_dr)
+        + 32 * u8::from(flags.tx_ds)
+        + 16 * u8::from(flags.max_rt)
         + 2 * index
-        + weight(tx_full, 1)
+        + u8::from(tx_full)
 }
 
 // OBSERVE_TX: how many payloads were given up and how often the last one was sent again, each at most 15.
@@ -62,7 +52,7 @@ pub fn observe_tx(lost: u8, retries: u8) -> u8
 pub fn fifo_status(tx: usize, rx: usize) -> u8
     ensures { result ≡ fifo_of tx rx }
 {
-    weight(tx == 3, 32) + weight(tx == 0, 16) + weight(rx == 3, 2) + weight(rx == 0, 1)
+    32 * u8::from(tx == 3) + 16 * u8::from(tx == 0) + 2 * u8::from(rx == 3) + u8::from(rx == 0)
 }
 
 // Whether the IRQ pin is low: exactly when some flag stands whose mask bit in CONFIG is clear.

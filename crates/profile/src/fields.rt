@@ -1,23 +1,46 @@
-// The fields of a profile.
-ghost use Rattle.std.specs.Prelude.{◌≡◌, if◌then◌else◌, Some, None};
-ghost use Rattle.profile.specs.Profile.{map_of, named_below, sound, if_sound, field_of, lent};
+// A profile, and the fields in it.
+ghost use Rattle.std.specs.Prelude.{◌≡◌};
+ghost use Rattle.std.specs.Option.{option_map};
+ghost use Rattle.registers.specs.Address.{address_of};
+ghost use Rattle.profile.specs.Profile.{map_of, named_below, if_sound, field_of, lent};
+ghost use Rattle.profile.specs.Reading.{bytes_of, Reads};
 
-use crate::map::{count_below, is_allowed, is_named, place};
+use crate::map::Map;
+use crate::reading::Profile;
 use commands::Refusal;
 use registers::Register;
 
-// The map of a profile whose map and length are right.
-fn sound_map(profile: &[u8]) -> Option<u32>
-    ensures { result ≡ (if sound profile.now then Some (map_of profile.now) else None) }
-{
-    let [a, b, c, d, ..] = profile else {
-        return None;
-    };
-    let map = u32::from_be_bytes([*a, *b, *c, *d]);
-    if is_allowed(map) && profile.len() == place(map, 24) {
-        Some(map)
-    } else {
-        None
+impl<'a> Profile<'a> {
+    // The profile that the bytes are.
+    pub fn read(bytes: &'a [u8]) -> Result<Profile<'a>, Refusal>
+        ensures { Reads bytes.now result }
+    {
+        let first = bytes.first_chunk().ok_or(Refusal::Profile)?;
+        let map = Map(u32::from_be_bytes(*first));
+        if map.is_allowed() && bytes.len() == map.place(24) {
+            Ok(Profile { bytes, map })
+        } else {
+            Err(Refusal::Profile)
+        }
+    }
+
+    // How many registers it names.
+    pub fn number_of_fields(&self) -> u32
+        ensures { result ≡ named_below (map_of (bytes_of self.now)) 24 }
+    {
+        self.map.count_below(24)
+    }
+
+    // The field of a register, as that part of the profile's own bytes; none where it is not named.
+    pub fn field(&self, register: Register) -> Option<&'a [u8]>
+        ensures { option_map (λ x. x.now) result ≡ field_of (bytes_of self.now) (address_of register) }
+    {
+        if self.map.names(register) {
+            let at = self.map.place(register.address());
+            Some(&self.bytes[at..at + register.size()])
+        } else {
+            None
+        }
     }
 }
 
@@ -25,26 +48,17 @@ fn sound_map(profile: &[u8]) -> Option<u32>
 pub fn number_of_fields(profile: &[u8]) -> Result<u32, Refusal>
     ensures { result ≡ if_sound profile.now (named_below (map_of profile.now) 24) }
 {
-    match sound_map(profile) {
-        Some(map) => Ok(count_below(map, 24)),
-        None => Err(Refusal::Profile),
-    }
+    Ok(Profile::read(profile)?.number_of_fields())
 }
 
 // The field of the register at an address, as that part of the profile's own bytes; none where it is not named.
 pub fn field(profile: &[u8], register: u8) -> Result<Option<&[u8]>, Refusal>
     ensures { lent result ≡ if_sound profile.now (field_of profile.now register) }
 {
-    let Some(map) = sound_map(profile) else {
-        return Err(Refusal::Profile);
-    };
-    let Some(named) = Register::at(register) else {
+    let profile = Profile::read(profile)?;
+    // not `and_then`: nothing is proved of a part of the profile that a closure hands on
+    let Ok(register) = Register::try_from(register) else {
         return Ok(None);
     };
-    let address = named.address();
-    if !is_named(map, address) {
-        return Ok(None);
-    }
-    let at = place(map, address);
-    Ok(Some(&profile[at..at + named.size()]))
+    Ok(profile.field(register))
 }

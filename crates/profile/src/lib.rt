@@ -3,5 +3,7 @@
 
 mod fields;
 mod map;
+mod reading;
 
 pub use fields::{field, number_of_fields};
+pub use reading::Profile;

@@ -1,11 +1,18 @@
 -- The program's table says what the table of registers says: one test over all rows, computed.
 -- Assumes nothing.
-use Rattle.std.proofs.Common.{◌≡◌, ℕ, zero, suc, ◌+◌, ◌<◌, ◌≤◌, Bool, true, false, ◌&&◌, T, eqb, List, [], ◌∷◌, length, get_or, is_some, None, sym, refl, ◌∙◌, subst, ⊎_elim, le_of_suc-le-suc, not-suc-le-zero, add-zero, add-suc, suc-add, zero-add, arith, eqb→eq}
+use Rattle.std.proofs.Common.{◌≡◌, ℕ, zero, suc, ◌+◌, ◌<◌, ◌≤◌, Bool, true, false, ◌&&◌, T, eqb, List, [], ◌∷◌, length, get_or, is_some, Option, Some, None, sym, refl, ap, ◌∙◌, subst, ⊎_elim, le_of_suc-le-suc, not-suc-le-zero, add-zero, add-suc, suc-add, zero-add, arith, eqb→eq}
+use Rattle.std.specs.Borrow.{Bor}
+use Rattle.std.specs.List.{HoldsAt}
+use Rattle.std.specs.Option.{MatchOption, IsSomeAnd, ok_or}
 use Rattle.std.proofs.lemmas.Bool.{cases_lt}
+use Rattle.std.proofs.lemmas.Option.{slice_get_past}
 use Rattle.registers.specs.declared.row.Row.{Row}
-use Rattle.registers.specs.Address.{address_of}
+use Rattle.registers.specs.declared.register.Register.{Register}
+use Rattle.registers.specs.declared.register.Register.TheVariants.{Config}
+use Rattle.registers.specs.Address.{address_of, registers, register_at, StandsAt}
 use Rattle.registers.specs.Table.{Entry, entry, table, tested, entry_at}
 use Rattle.registers.specs.Rows.{permits, writable, same, equal, below, agrees, agree, Tells}
+use Rattle.registers.proofs.Holding.{found}
 
 left : (a b : Bool) → T (a && b) → T a
 left true b t = tt
@@ -73,3 +80,34 @@ pub row_tells : (rs : List Row) (d : Row) → agree 0 rs table ≡ true → (n :
 row_tells rs d t n h =
     subst (λ (m : ℕ). Tells m (get_or rs n d) (entry_at n)) (zero-add n)
     (from 0 rs table d (entry [] 0 0 None) (subst T (sym t) tt) n h)
+
+-- its register is the one of the list
+pub row_register :
+    (rs : List Row) (d : Row) → agree 0 rs table ≡ true → (n : ℕ) → n < 24 → Some (get_or rs n d).register ≡ register_at n
+row_register rs d t n h =
+    sym (found (get_or rs n d).register) ∙ ap register_at (row_tells rs d t n h).register
+
+-- the registers of the list have the addresses from 0 on
+pub listed : (n : ℕ) → n < 24 → address_of (get_or registers n Config) ≡ n
+listed n h = eqb→eq _ n (below_at 24 (λ k. eqb (address_of (get_or registers k Config)) k) tt n h)
+
+-- the register of the row that a lookup gave, where P is what is known of that register
+pub looked_up :
+    (P : Bor Row → Register → Type 0) (rs : List Row) (n : ℕ) (got : Option (Bor Row)) (found : Option Register) → agree 0 rs table ≡ true → length rs ≡ 24
+    → MatchOption got (length rs ≤ n) (λ x. (n < length rs) × HoldsAt (λ y. x.now ≡ y) rs n)
+    → MatchOption got (found ≡ None) (λ x. IsSomeAnd found (P x)) → ((x : Bor Row) (r : Register) → P x r → r ≡ x.now.register)
+    → StandsAt n (ok_or found (record {}))
+looked_up P rs n None found t l g m p =
+    let h : 24 ≤ n = omega (arith, g) in
+    rw m (record { value = ap (λ (o : Option Register). ok_or o (record {})) (sym (slice_get_past registers n h)); back = h })
+looked_up P rs n (Some x) None t l g m p = absurd m
+looked_up P rs n (Some x) (Some r) t l g m p =
+    let d : Row = x.now in
+    let at : x.now ≡ get_or rs n d = g.1 d in
+    let e : r ≡ (get_or rs n d).register = p x r m ∙ ap (λ (y : Row). y.register) at in
+    let h : n < 24 = omega (arith, g.0) in
+    let s : Some r ≡ register_at n = ap (λ (q : Register). Some q) e ∙ row_register rs d t n h in
+    record {
+      value = ap (λ (o : Option Register). ok_or o (record {})) s;
+      back = ap address_of e ∙ (row_tells rs d t n h).register;
+    }

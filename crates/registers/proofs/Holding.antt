@@ -9,7 +9,7 @@ use Rattle.registers.specs.Address.{address_of, register_at}
 use Rattle.registers.specs.Table.{size_of}
 use Rattle.registers.specs.File.{padded, places, value_of, byte_of, Holds}
 
-found : (r : Register) → register_at (address_of r) ≡ Some r
+pub found : (r : Register) → register_at (address_of r) ≡ Some r
 found r = search rules
 
 pub address_bound : (r : Register) → address_of r < 24

@@ -1,7 +1,9 @@
 -- Each register and its address.
-use Rattle.std.specs.Prelude.{ℕ, List, [], ◌∷◌, Option}
+use Rattle.std.specs.Prelude.{◌≡◌, ℕ, ◌≤◌, List, [], ◌∷◌, Option, Result, MatchResult}
 use Rattle.std.specs.List.{slice_get}
+use Rattle.std.specs.Option.{ok_or}
 use Rattle.registers.specs.declared.register.Register.{Register}
+use Rattle.registers.specs.declared.register.NoSuchRegister.{NoSuchRegister}
 use Rattle.registers.specs.declared.register.Register.TheVariants.{Config, EnAa, EnRxaddr, SetupAw, SetupRetr, RfCh, RfSetup, Status, ObserveTx, Reserved, RxAddrP0, RxAddrP1, RxAddrP2, RxAddrP3, RxAddrP4, RxAddrP5, TxAddr, RxPwP0, RxPwP1, RxPwP2, RxPwP3, RxPwP4, RxPwP5, FifoStatus}
 
 abbrev pub address_of : Register → ℕ
@@ -36,3 +38,8 @@ registers = Config ∷ EnAa ∷ EnRxaddr ∷ SetupAw ∷ SetupRetr ∷ RfCh ∷ 
 
 abbrev pub register_at : ℕ → Option Register
 register_at n = slice_get registers n
+
+-- the answer is the register at the address; there is none from 24 up
+pub record StandsAt (address : ℕ) (answer : Result Register NoSuchRegister) : Type 0 where
+  pub value : answer ≡ ok_or (register_at address) (record {})
+  pub back : MatchResult answer (λ q. address_of q ≡ address) (λ _. 24 ≤ address)

@@ -5,9 +5,5 @@ ghost use Rattle.registers.specs.Bits.{bit};
 pub fn stands(byte: u8, place: u8) -> bool
     ensures { result ≡ bit place byte }
 {
-    if place < 8 {
-        (byte >> place) % 2 == 1
-    } else {
-        false
-    }
+    place < 8 && (byte >> place) % 2 == 1
 }

@@ -1,45 +1,18 @@
-ghost use Rattle.std.specs.Prelude.{◌≡◌, ◌<◌, ◌≤◌, length, take, slice_index, slice_set};
-ghost use Rattle.registers.specs.Table.{size_of, entry_at};
-ghost use Rattle.registers.specs.File.{value_of, byte_of, written, initial, at_reset, Holds, StartsAllowed};
+ghost use Rattle.std.specs.Prelude.{◌≡◌, ◌≤◌, length, take, slice_index};
+ghost use Rattle.registers.specs.Table.{size_of};
+ghost use Rattle.registers.specs.File.{padded, value_of, byte_of, written, at_reset, Holds, StartsAllowed};
 
 use crate::held::{Registers, Value};
 use crate::register::Register;
-use crate::table::row;
 
-// The first bytes of a register's places.
-fn front(value: &Value, size: usize) -> &[u8]
-    requires { size ≤ 5 }
-    ensures value { result.now ≡ take size value.now.bytes }
-    ensures len { length result.now ≡ size }
+// The bytes as a value, with 0 behind them.
+pub(crate) fn padded(front: &[u8]) -> Value
+    requires { length front.now ≤ 5 }
+    ensures { result ≡ padded front.now }
 {
-    let bytes = &value.bytes[..];
-    &bytes[0..size]
-}
-
-// What the register at `address` holds at reset.
-fn reset_value(address: u8) -> Value
-    requires { address < 24 }
-    ensures { result ≡ initial (entry_at address) }
-{
-    let row = row(address);
-    if row.size == 1 {
-        Value {
-            bytes: [row.reset, 0, 0, 0, 0],
-        }
-    } else {
-        Value {
-            bytes: [row.reset; 5],
-        }
-    }
-}
-
-// Puts `value` at the place of the register at `address`.
-fn put(held: &mut [Value; 24], address: u8, value: Value)
-    requires { address < 24 }
-    ensures after { held.new ≡ slice_set held.old address value }
-    ensures len { length held.old ≡ 24 }
-{
-    held[address as usize] = value;
+    let mut bytes = [0; 5];
+    bytes[0..front.len()].copy_from_slice(front);
+    Value { bytes }
 }
 
 impl Registers {
@@ -48,11 +21,9 @@ impl Registers {
         ensures value { result ≡ at_reset }
         ensures allowed { StartsAllowed result }
     {
-        let mut held = [Value { bytes: [0; 5] }; 24];
-        for place in 0..24 {
-            held[place] = reset_value(place as u8);
+        Registers {
+            held: Register::all().map(Register::reset_value),
         }
-        Registers { held }
     }
 
     // The bytes that a register holds, the lowest first.
@@ -61,15 +32,15 @@ impl Registers {
         ensures len { length result.now ≡ size_of register }
         ensures lowest { slice_index result.now 0 ≡ byte_of self.now register }
     {
-        let all = &self.held[..];
-        front(&all[register.address() as usize], register.size())
+        let Value { bytes } = &self.held[usize::from(register.address())];
+        &bytes[..register.size()]
     }
 
     // The lowest byte that a register holds.
     pub fn byte(&self, register: Register) -> u8
         ensures { result ≡ byte_of self.now register }
     {
-        self.held[register.address() as usize].bytes[0]
+        self.held[usize::from(register.address())].bytes[0]
     }
 
     // Puts `value` into a register, and leaves all others as they are; a value of another size changes nothing.
@@ -78,9 +49,7 @@ impl Registers {
         ensures law { Holds self.old register value.now self.new }
     {
         if value.len() == register.size() {
-            let mut bytes = [0; 5];
-            bytes[0..value.len()].copy_from_slice(value);
-            put(&mut self.held, register.address(), Value { bytes });
+            self.held[usize::from(register.address())] = padded(value);
         }
     }
 }

@@ -2,7 +2,6 @@
 
 mod address;
 mod bits;
-mod count;
 mod file;
 mod held;
 mod pipe;
@@ -14,5 +13,5 @@ mod table;
 
 pub use bits::stands;
 pub use held::Registers;
-pub use pipe::{Pipe, Rate};
-pub use register::Register;
+pub use pipe::{NoSuchPipe, Pipe, Rate};
+pub use register::{NoSuchRegister, Register};

@@ -9,6 +9,10 @@ pub enum Pipe {
     P5,
 }
 
+// No pipe has the number.
+#[derive(Clone, Copy, Debug, PartialEq, Eq)]
+pub struct NoSuchPipe;
+
 // The rate of the radio.
 #[derive(Clone, Copy, PartialEq, Eq)]
 pub enum Rate {

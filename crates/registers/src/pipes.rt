@@ -1,11 +1,18 @@
-ghost use Rattle.std.specs.Prelude.{◌≡◌, ◌<◌, ◌≤◌, Some, MatchOption};
-ghost use Rattle.registers.specs.Pipes.{index_of, pipe_at, address_register, width_register};
+ghost use Rattle.std.specs.Prelude.{◌≡◌, ◌<◌, Some};
+ghost use Rattle.registers.specs.Pipes.{index_of, pipes, pipe_at, HasNumber, address_register, width_register};
 
-use crate::pipe::Pipe;
+use crate::pipe::{NoSuchPipe, Pipe};
 use crate::register::Register;
 
 impl Pipe {
-    // The number of the pipe, at which `at` finds it again.
+    // Every pipe, by ascending number.
+    pub fn all() -> [Pipe; 6]
+        ensures { result ≡ pipes }
+    {
+        [Pipe::P0, Pipe::P1, Pipe::P2, Pipe::P3, Pipe::P4, Pipe::P5]
+    }
+
+    // The number of the pipe, at which `try_from` finds it again. A method, since `u8::from` would not say which number.
     pub fn index(self) -> u8
         ensures value { result ≡ index_of self }
         ensures bound { result < 6 }
@@ -14,23 +21,8 @@ impl Pipe {
         self as u8
     }
 
-    // The pipe of a number; there is none from 6 up.
-    pub fn at(index: u8) -> Option<Pipe>
-        ensures value { result ≡ pipe_at index }
-        ensures back { MatchOption result (6 ≤ index) (λ p. index_of p ≡ index) }
-    {
-        match index {
-            0 => Some(Pipe::P0),
-            1 => Some(Pipe::P1),
-            2 => Some(Pipe::P2),
-            3 => Some(Pipe::P3),
-            4 => Some(Pipe::P4),
-            5 => Some(Pipe::P5),
-            _ => None,
-        }
-    }
-
-    // The register of its own address, or of the low byte of it.
+    // The register of its own address, or of the low byte of it. Written out, as is the next table: a register found by
+    // counting on from RX_ADDR_P0 would be no shorter, and not seen to be there.
     pub fn address_register(self) -> Register
         ensures { result ≡ address_register self }
     {
@@ -56,5 +48,19 @@ impl Pipe {
             Pipe::P4 => Register::RxPwP4,
             Pipe::P5 => Register::RxPwP5,
         }
+    }
+}
+
+// The pipe of a number; there is none from 6 up.
+impl TryFrom<u8> for Pipe {
+    type Error = NoSuchPipe;
+
+    ghost try_from_gives = { HasNumber };
+
+    fn try_from(number: u8) -> Result<Pipe, NoSuchPipe> {
+        Pipe::all()
+            .get(usize::from(number))
+            .copied()
+            .ok_or(NoSuchPipe)
     }
 }

@@ -12,32 +12,39 @@ use crate::register::Register;
 
 // CONFIG: 3 EN_CRC, 2 CRCO, 1 PWR_UP, 0 PRIM_RX; its bits 6, 5, 4 mask the interrupts.
 impl Registers {
+    // Whether the bit at `place` stands in the register's lowest byte.
+    fn bit(&self, register: Register, place: u8) -> bool
+        ensures { result ≡ bit place (byte_of self.now register) }
+    {
+        stands(self.byte(register), place)
+    }
+
     // PRIM_RX: a receiver, else a sender.
     pub fn is_receiver(&self) -> bool
         ensures { result ≡ bit 0 (byte_of self.now Config) }
     {
-        stands(self.byte(Register::Config), 0)
+        self.bit(Register::Config, 0)
     }
 
     // PWR_UP.
     pub fn is_powered(&self) -> bool
         ensures { result ≡ bit 1 (byte_of self.now Config) }
     {
-        stands(self.byte(Register::Config), 1)
+        self.bit(Register::Config, 1)
     }
 
     // CRCO: a check of 16 bits, else of 8.
     pub fn crc_is_wide(&self) -> bool
         ensures { result ≡ bit 2 (byte_of self.now Config) }
     {
-        stands(self.byte(Register::Config), 2)
+        self.bit(Register::Config, 2)
     }
 
     // EN_CRC.
     pub fn crc_enabled(&self) -> bool
         ensures { result ≡ bit 3 (byte_of self.now Config) }
     {
-        stands(self.byte(Register::Config), 3)
+        self.bit(Register::Config, 3)
     }
 }
 
@@ -74,10 +81,9 @@ impl Registers {
     pub fn rate(&self) -> Rate
         ensures { result ≡ rate_of (byte_of self.now RfSetup) }
     {
-        let setup = self.byte(Register::RfSetup);
-        if stands(setup, 5) {
+        if self.bit(Register::RfSetup, 5) {
             Rate::Kbps250
-        } else if stands(setup, 3) {
+        } else if self.bit(Register::RfSetup, 3) {
             Rate::Mbps2
         } else {
             Rate::Mbps1
@@ -90,14 +96,14 @@ impl Registers {
     pub fn is_enabled(&self, pipe: Pipe) -> bool
         ensures { result ≡ bit (index_of pipe) (byte_of self.now EnRxaddr) }
     {
-        stands(self.byte(Register::EnRxaddr), pipe.index())
+        self.bit(Register::EnRxaddr, pipe.index())
     }
 
     // EN_AA: whether the pipe answers with an acknowledgement.
     pub fn is_acknowledged(&self, pipe: Pipe) -> bool
         ensures { result ≡ bit (index_of pipe) (byte_of self.now EnAa) }
     {
-        stands(self.byte(Register::EnAa), pipe.index())
+        self.bit(Register::EnAa, pipe.index())
     }
 
     // RX_PW: the length of the payloads that the pipe takes.
@@ -113,8 +119,7 @@ impl Registers {
     {
         let mut address = [0; 5];
         match pipe {
-            Pipe::P0 => address.copy_from_slice(self.value(Register::RxAddrP0)),
-            Pipe::P1 => address.copy_from_slice(self.value(Register::RxAddrP1)),
+            Pipe::P0 | Pipe::P1 => address.copy_from_slice(self.value(pipe.address_register())),
             _ => {
                 address.copy_from_slice(self.value(Register::RxAddrP1));
                 address[0] = self.byte(pipe.address_register());

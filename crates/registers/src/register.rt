@@ -1,5 +1,5 @@
 // The registers, in the order of their addresses, 00 to 17 (hexadecimal). There is no register at 18 to 1F.
-#[derive(Clone, Copy)]
+#[derive(Clone, Copy, PartialEq, Eq)]
 pub enum Register {
     Config,
     EnAa,
@@ -26,3 +26,7 @@ pub enum Register {
     RxPwP5,
     FifoStatus,
 }
+
+// No register has the address.
+#[derive(Clone, Copy, Debug, PartialEq, Eq)]
+pub struct NoSuchRegister;

@@ -1,10 +1,14 @@
-ghost use Rattle.std.specs.Prelude.{◌≡◌, ◌<◌, ◌≤◌, true, ◌⊎◌, MatchOption};
-ghost use Rattle.registers.specs.Address.{address_of, register_at};
+ghost use Rattle.std.specs.Prelude.{◌≡◌, true, ◌⊎◌, Some};
+ghost use Rattle.registers.specs.Address.{address_of, registers, StandsAt};
+ghost use Rattle.registers.specs.File.{initial};
 ghost use Rattle.registers.specs.Table.{name_of, size_of, takes, is_read_only, entry_at, table};
 ghost use Rattle.registers.specs.Rows.{permits, agree, Tells};
 
-use crate::register::Register;
+use crate::file::padded;
+use crate::held::Value;
+use crate::register::{NoSuchRegister, Register};
 use crate::row::{Allowed, Row};
+use std::{array, fmt};
 
 // Every register, by its address.
 const TABLE: [Row; 24] = [
@@ -187,7 +191,7 @@ impl Allowed {
             Allowed::ReadOnly => false,
             Allowed::All => true,
             Allowed::Clear(bits) => value & bits == 0,
-            Allowed::Range(low, high) => low <= value && value <= high,
+            Allowed::Range(low, high) => (low..=high).contains(&value),
             Allowed::RfSetup => value & 0xD0 == 0 && value & 0x28 != 0x28,
         }
     }
@@ -200,32 +204,26 @@ fn rows() -> &'static [Row; 24]
     &TABLE
 }
 
-// The row of the register at `address`.
-pub(crate) fn row(address: u8) -> Row
-    requires { address < 24 }
-    ensures { Tells address result (entry_at address) }
-{
-    rows()[address as usize]
-}
-
 impl Register {
-    // The register at an address; there is none from 18 hexadecimal up.
-    pub fn at(address: u8) -> Option<Register>
-        ensures value { result ≡ register_at address }
-        ensures back { MatchOption result (24 ≤ address) (λ q. address_of q ≡ address) }
+    // Every register, by ascending address.
+    pub fn all() -> [Register; 24]
+        ensures { result ≡ registers }
     {
-        if address < 24 {
-            Some(row(address).register)
-        } else {
-            None
-        }
+        array::from_fn(|address| rows()[address].register)
+    }
+
+    // What the table says of it.
+    fn row(self) -> Row
+        ensures { Tells (address_of self) result (entry_at (address_of self)) }
+    {
+        rows()[usize::from(self.address())]
     }
 
     // Its name in the data sheet.
     pub fn name(self) -> &'static str
         ensures { result.now ≡ name_of self }
     {
-        row(self.address()).name
+        self.row().name
     }
 
     // How many bytes it holds, one or five.
@@ -233,27 +231,53 @@ impl Register {
         ensures value { result ≡ size_of self }
         ensures sizes { (result ≡ 1) ⊎ (result ≡ 5) }
     {
-        row(self.address()).size
+        self.row().size
     }
 
     // Whether it is never written.
     pub fn is_read_only(self) -> bool
         ensures { result ≡ is_read_only self }
     {
-        match row(self.address()).allowed {
-            Allowed::ReadOnly => true,
-            _ => false,
-        }
+        matches!(self.row().allowed, Allowed::ReadOnly)
     }
 
     // Whether `value` may be written to it: as many bytes as it holds, and a value that it takes.
     pub fn allows(self, value: &[u8]) -> bool
         ensures { result ≡ takes self value.now }
     {
-        let row = row(self.address());
+        let row = self.row();
         match value {
             [low, ..] => value.len() == row.size && row.allowed.permits(*low),
             [] => false,
         }
+    }
+
+    // What it holds at reset: the same in each of its bytes.
+    pub(crate) fn reset_value(self) -> Value
+        ensures { result ≡ initial (entry_at (address_of self)) }
+    {
+        padded(&[self.row().reset; 5][..self.size()])
+    }
+}
+
+// The register at an address; there is none from 18 hexadecimal up.
+impl TryFrom<u8> for Register {
+    type Error = NoSuchRegister;
+
+    ghost try_from_gives = { StandsAt };
+
+    fn try_from(address: u8) -> Result<Register, NoSuchRegister> {
+        rows()
+            .get(usize::from(address))
+            .map(|row| row.register)
+            .ok_or(NoSuchRegister)
+    }
+}
+
+impl fmt::Display for Register {
+    ghost output = { λ r. Some (name_of r) };
+
+    fn fmt<W: fmt::Write>(&self, f: &mut fmt::Formatter<W>) -> fmt::Result {
+        f.write_str(self.name())
     }
 }

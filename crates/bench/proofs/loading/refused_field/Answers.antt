@@ -1,25 +1,29 @@
-use Rattle.std.proofs.Common.{◌≡◌, ℕ, drop, sym, ap, ◌∙◌, arith}
+use Rattle.std.proofs.Common.{◌≡◌, Bool, true, false, cond, Some, List, [], ◌∷◌, ℕ, refl, ap, ◌∙◌, rules, tests}
+use Rattle.std.specs.List.{find}
+use Rattle.std.specs.Option.{option_map}
+use Rattle.std.proofs.lemmas.Iterator.{YieldsList-from_slice}
+use Rattle.std.proofs.lemmas.Iterator.Search.{find_from_yields_List}
+use Rattle.registers.specs.declared.register.Register.{Register}
 use Rattle.registers.specs.Address.{registers}
+use Rattle.commands.specs.declared.refusal.Refusal.TheVariants.{NotAllowed}
 use Rattle.commands.specs.Refusals.{first_of}
-use Rattle.bench.specs.Loading.{field_refusals}
-use Rattle.bench.proofs.Walk.{refused, passed}
+use Rattle.profile.specs.Reading.{bytes_of}
+use Rattle.bench.specs.Loading.{field, refuses, field_refusals}
 use Rattle.bench.proofs.loading.refused_field.Goals as goal
-use Rattle.bench.proofs.loading.refused_field.Goals.{in-Some+else-not-takes_field, in_default}
 
-pub returns-then-not-takes_field : goal.returns-then-not-takes_field
-returns-then-not-takes_field c =
-    sym (c.loop-address.invariant ∙ refused c.args.profile.now c.loop-address.address c.in-Some.register c.in-Some.ensures.value c.if-not-takes_field.ensures)
-
-pub loop-address-preserved : goal.loop-address-preserved
-loop-address-preserved c =
-    elim c.match-at.branch [
-      | in-Some+else-not-takes_field w ↦
-          c.loop-address.invariant
-          ∙ passed c.args.profile.now c.loop-address.address w.in-Some.register w.in-Some.ensures.value w.if-not-takes_field.ensures
-      | in_default w ↦ absurd (omega (arith, w.in_default.ensures.back, c.loop-address-test.true))
-    ]
+-- the refusal of the first register that refuses is the first refusal
+first_refused : (p : List ℕ) (rs : List Register)
+    → option_map (λ r. NotAllowed r) (find (λ r. refuses r (field p r)) rs) ≡ first_of (field_refusals p rs)
+first_refused p [] = refl
+first_refused p (r ∷ rs) = by (refuses r (field p r)) (first_refused p rs)
+  where
+    by : (b : Bool) → option_map (λ r. NotAllowed r) (find (λ r. refuses r (field p r)) rs) ≡ first_of (field_refusals p rs)
+        → option_map (λ r. NotAllowed r) (cond b (Some r) (find (λ r. refuses r (field p r)) rs)) ≡ cond b (Some (NotAllowed r)) (first_of (field_refusals p rs))
+    by true e = refl
+    by false e = e
 
 pub returns : goal.returns
 returns c =
-    let e : c.loop-address.address ≡ 24 = omega arith in
-    sym (c.loop-address.invariant ∙ ap (λ (n : ℕ). first_of (field_refusals c.args.profile.now (drop n registers))) e)
+    let p = bytes_of c.args.profile.now in
+    let h = find_from_yields_List (λ r. refuses r (field p r)) _ _ _ c.find.ensures.ran (YieldsList-from_slice registers cc) (λ x b q k. search (rules, tests)) in
+    ap (option_map (λ r. NotAllowed r)) (c.copied.ensures ∙ h) ∙ first_refused p registers

@@ -1,23 +1,35 @@
-use Rattle.std.proofs.Common.{◌≡◌, ℕ, ◌+◌, drop, sym, ap, ◌∙◌, arith}
+use Rattle.std.proofs.Common.{◌≡◌, ℕ, ◌+◌, List, ◌∷◌, length, get_or, drop, sym, ap, ◌∙◌, add-one, arith}
+use Rattle.std.proofs.Math.Seq.{drop-cons}
+use Rattle.std.proofs.lemmas.List.{drop_all}
+use Rattle.registers.specs.declared.register.Register.{Register}
+use Rattle.registers.specs.declared.register.Register.TheVariants.{Config}
 use Rattle.registers.specs.declared.held.Registers.{Registers}
-use Rattle.registers.specs.Address.{registers}
+use Rattle.profile.specs.Reading.{bytes_of}
 use Rattle.bench.specs.Loading.{fields_written}
-use Rattle.bench.proofs.Walk.{stepped}
+use Rattle.bench.proofs.Loads.{held_after, filled, all_filled}
 use Rattle.bench.proofs.loading.write_fields.Goals as goal
-use Rattle.bench.proofs.loading.write_fields.Goals.{in-Some, in_default}
 
-pub loop-address-preserved : goal.loop-address-preserved
-loop-address-preserved c =
-    let p = c.args.profile.now in
-    let i = c.loop-address.address in
-    elim c.match-at.branch [
-      | in-Some w ↦
-          c.loop-address.invariant ∙ stepped p i w.in-Some.register w.in-Some.ensures.value c.loop-address.file
-          ∙ ap (λ (f : Registers). fields_written (drop (c.loop-address.address + 1) registers) p f) (sym (w.file-is ∙ w.write_field.ensures))
-      | in_default w ↦ absurd (omega (arith, w.in_default.ensures.back, c.loop-address-test.true))
-    ]
+pub loop-register-preserved : goal.loop-register-preserved
+loop-register-preserved c =
+    let p = bytes_of c.args.profile.now in
+    let all = c.all-register-items.result in
+    let i = c.loop-register.register-index in
+    let f = c.loop-register.file in
+    let r = get_or all i Config in
+    let rest = drop (i + 1) all in
+    let l : length all ≡ 24 = ap length c.all-register-items.ensures in
+    let next : drop i all ≡ r ∷ rest = drop-cons all i Config (omega (arith, l)) ∙ ap (λ (n : ℕ). r ∷ drop n all) (sym (add-one i)) in (
+      c.loop-register.invariant.0 ∙ ap (λ (rs : List Register). fields_written rs p f) next
+          ∙ ap (λ (g : Registers). fields_written rest p g) (sym c.write_field.ensures.after),
+      λ n q.
+          filled p f c.write_field.new.file r rest c.write_field.ensures.law (n r) q ∙ ap (λ (rs : List Register). held_after p rs f q) (sym next)
+          ∙ c.loop-register.invariant.1 n q,
+    )
 
-pub returns : goal.returns
-returns c =
-    let e : c.loop-address.address ≡ 24 = omega arith in
-    sym (c.loop-address.invariant ∙ ap (λ (n : ℕ). fields_written (drop n registers) c.args.profile.now c.loop-address.file) e)
+pub returns-clause-law : goal.returns-clause-law
+returns-clause-law c =
+    let all = c.all-register-items.result in
+    let l : length all ≡ 24 = ap length c.all-register-items.ensures in
+    λ n q.
+    all_filled (bytes_of c.args.profile.now) c.args.file.now c.loop-register.file (drop c.loop-register.register-index all) all
+    (drop_all c.loop-register.register-index all (omega (arith, l))) c.all-register-items.ensures q (c.loop-register.invariant.1 n q)

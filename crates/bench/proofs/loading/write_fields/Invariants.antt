@@ -1,8 +1,13 @@
-use Rattle.std.proofs.Common.{◌≡◌, drop}
-use Rattle.registers.specs.Address.{registers}
-use Rattle.bench.specs.Loading.{fields_written}
+use Rattle.std.proofs.Common.{◌≡◌, false, drop}
+use Rattle.registers.specs.declared.register.Register.{Register}
+use Rattle.profile.specs.Reading.{bytes_of}
+use Rattle.bench.specs.Loading.{field, refuses, fields_written}
+use Rattle.bench.proofs.Loads.{held_after}
 use Rattle.bench.proofs.loading.write_fields.Given as goal
 
-abbrev pub invariant-loop-address : goal.invariant-loop-address
-invariant-loop-address l =
-    fields_written registers l.profile l.initial.file ≡ fields_written (drop l.address registers) l.profile l.file
+-- what is left to write makes of the file what all of it makes of the file at the start
+abbrev pub invariant-loop-register : goal.invariant-loop-register
+invariant-loop-register l =
+    (fields_written l.register-items (bytes_of l.profile) l.initial.file ≡ fields_written (drop l.register-index l.register-items) (bytes_of l.profile) l.file)
+    × (((q : Register) → refuses q (field (bytes_of l.profile) q) ≡ false) → (q : Register)
+    → held_after (bytes_of l.profile) (drop l.register-index l.register-items) l.file q ≡ held_after (bytes_of l.profile) l.register-items l.initial.file q)

@@ -1,9 +1,12 @@
-use Rattle.std.proofs.Common.{◌≡◌, ℕ, ◌<◌, List, [], length, get_or, sym, ap, subst, arith, rules}
+use Rattle.std.proofs.Common.{◌≡◌, ℕ, ◌<◌, get_or, [], List, ap, length, rules}
 use Rattle.std.proofs.lemmas.List.FromFn.{fill_by_all}
 use Rattle.registers.specs.declared.held.Value.{Value}
 use Rattle.registers.specs.declared.held.Registers.{Registers}
+use Rattle.registers.specs.Address.{address_of}
 use Rattle.registers.specs.Table.{entry_at}
-use Rattle.registers.specs.File.{initial, at_reset, StartsAllowed}
+use Rattle.registers.specs.File.{initial, at_reset}
+use Rattle.registers.specs.declared.register.Register.TheVariants.{Config}
+use Rattle.registers.proofs.Agree.{listed}
 use Rattle.registers.proofs.held.Registers.reset.Goals as goal
 
 all_reset :
@@ -12,11 +15,12 @@ all_reset :
 all_reset held l each =
     ap (λ (h : List Value). record { held = h }) (fill_by_all (λ k. initial (entry_at k)) held 24 (record { bytes = [] }) l each)
 
-allowed : StartsAllowed at_reset
-allowed q w s = search rules
-
-pub returns : goal.returns
-returns c =
-    let inv = c.loop-place.invariant in
-    let e = all_reset c.loop-place.held inv.0 (λ k h. inv.1 k (omega arith)) in
-    record { value = e; allowed = subst StartsAllowed (sym e) allowed }
+pub returns-clause-value : goal.returns-clause-value
+returns-clause-value c =
+    let each : (k : ℕ) → k < 24 → get_or c.map.result k (record { bytes = [] }) ≡ initial (entry_at k) =
+    λ k h.
+    let called = (c.map.ensures.items.at k Config (record { bytes = [] }) h).2 in
+    let e : address_of (get_or c.all.result k Config) ≡ k = rw c.all.ensures (listed k h) in
+    let v : get_or c.map.result k (record { bytes = [] }) ≡ initial (entry_at (address_of (get_or c.all.result k Config))) = search rules in
+    rw e at v in
+    all_reset c.map.result c.map.ensures.items.long each
