@@ -9,7 +9,7 @@ use Rattle.checks.specs.Places.{length_word, length_bits}
 use Rattle.frames.specs.Octets.{octets}
 use Rattle.frames.specs.Packet.{Packet, control, covered, preamble, frame_bits, buffer_after}
 use Rattle.frames.proofs.Places.{then_put, bits_append}
-use Rattle.frames.proofs.Octets.{bits_drop, front_octets, bits_octets, length_octets}
+use Rattle.frames.proofs.Octets.{front_octets, bits_octets, length_octets}
 
 word_one : (b : Bool) → word 1 (from_bool b) ≡ b ∷ []
 unfolding word
@@ -106,15 +106,15 @@ put_all s width len pre pid flag hs ps d b1 b2 b3 b4 b5 b6 lh lp eh ep ei ef f1 
     (ap₂ (λ (n : ℕ) (t : List Bool). word 6 n ++ (s4 ++ t)) (sym lp ∙ ap length ep) (word_one s.no_ack)) ep) in
     p6 ∙ ap₂ (λ (t : List Bool) (n : ℕ). paste d 0 t n) (e ∙ ap (λ (t : List Bool). s1 ++ t) q) w6
 
--- what the check covers, in the bytes after the first
+-- what the check covers, in the bits after the preamble
 pub covered_read :
     (xs : List ℕ) (d p t : List Bool) (n : ℕ) → length p ≡ 8 → n ≡ 8 + length t → bits xs ≡ paste d 0 (p ++ t) n
-    → take (n - 8) (bits (drop 1 xs)) ≡ t
+    → take (n - 8) (drop 8 (bits xs)) ≡ t
 covered_read xs d p t n lp ln e =
     let l : n ≡ length (p ++ t) = omega (arith, length-append p t) in
     let m : length t ≡ n - 8 = omega arith in
     ap (take (n - 8))
-    (sym (bits_drop 1 xs) ∙ ap (drop 8) (e ∙ paste_all d 0 (p ++ t) n l ∙ append_assoc p t _) ∙ drop_at p (t ++ _) 8 lp)
+    (ap (drop 8) (e ∙ paste_all d 0 (p ++ t) n l ∙ append_assoc p t _) ∙ drop_at p (t ++ _) 8 lp)
     ∙ take_at t _ (n - 8) m
 
 spare : word 7 0 ≡ replicate 7 false

@@ -3,17 +3,9 @@ use Rattle.std.proofs.Common.{◌≡◌, ℕ, zero, suc, ◌+◌, ◌-◌, ◌*�
 use lib.Seq.{paste}
 use Rattle.std.proofs.lemmas.List.Edits.{paste-paste}
 use Rattle.std.proofs.lemmas.List.{append_assoc, append-nil, take_more, length-take-le, get_or_append_left, get_or-append_right, set-append_left, set-append_right}
-use Rattle.checks.specs.Bits.{bit, word, bits}
+use Rattle.checks.specs.Bits.{word, bits}
 use Rattle.checks.specs.Places.{length_word, length_bits}
 use Rattle.frames.specs.Octets.{digit, number_after}
-
-pub getD_word : (n v j : ℕ) → j < n → get_or (word n v) j false ≡ bit v (n - 1 - j)
-unfolding word
-getD_word zero v j h = absurd (omega arith)
-getD_word (suc n) v zero h = let e : n ≡ suc n - 1 - 0 = omega arith in ap (λ (k : ℕ). bit v k) e
-getD_word (suc n) v (suc j) h =
-    let e : n - 1 - j ≡ suc n - 1 - suc j = omega arith in
-    getD_word n v j (omega arith) ∙ ap (λ (k : ℕ). bit v k) e
 
 -- bit j of byte i
 pub get_d_bits : (xs : List ℕ) (i j k : ℕ) → i < length xs → j < 8 → k ≡ 8 * i + j → get_or (bits xs) k false ≡ get_or (word 8 (get_or xs i 0)) j false

@@ -1,7 +1,9 @@
+// Numbers and bytes in the bits of a buffer. The loops over a number's bits go by their places, since a number is no
+// collection, and each place is both shifted by and written to.
 ghost use Rattle.std.specs.Prelude.{◌≡◌, ℕ, ◌+◌, ◌-◌, ◌*◌, ◌^◌, ◌<◌, ◌≤◌, false, length, take, drop, slice_index, slice_set};
 ghost use Rattle.std.proofs.Math.Seq.{paste};
 ghost use Rattle.checks.specs.Bits.{word, bits};
-ghost use Rattle.frames.specs.Octets.{number, octets};
+ghost use Rattle.frames.specs.Octets.{number, octets, HasBits};
 
 use checks::bit_at;
 
@@ -20,7 +22,7 @@ pub(crate) fn put_bit(buf: &mut [u8], at: usize, bit: bool)
 
 // The low bits of a number are written from a place on, most significant first; the others stay.
 pub(crate) fn put_bits(buf: &mut [u8], at: usize, value: u16, count: usize)
-    requires { (at + count ≤ 8 * length buf.old) × ((at + count < 65536) × (count ≤ 16)) }
+    requires { HasBits buf.old at count × (count ≤ 16) }
     ensures { bits buf.new ≡ paste (bits buf.old) at (word count value) count }
 {
     for i in 0..count {
@@ -30,7 +32,7 @@ pub(crate) fn put_bits(buf: &mut [u8], at: usize, value: u16, count: usize)
 
 // The number that the bits from a place on write, most significant first.
 pub(crate) fn get_bits(buf: &[u8], at: usize, count: usize) -> u16
-    requires { (at + count ≤ 8 * length buf.now) × ((at + count < 65536) × (count ≤ 16)) }
+    requires { HasBits buf.now at count × (count ≤ 16) }
     ensures value { result ≡ number (take count (drop at (bits buf.now))) }
     ensures below { result < 2 ^ count }
 {
@@ -43,7 +45,7 @@ pub(crate) fn get_bits(buf: &[u8], at: usize, count: usize) -> u16
 
 // Bytes are written from a place on that need not be a byte's start; the other bits stay.
 pub(crate) fn put_octets(buf: &mut [u8], at: usize, src: &[u8])
-    requires { (at + 8 * length src.now ≤ 8 * length buf.old) × (at + 8 * length src.now < 65536) }
+    requires { HasBits buf.old at (8 * length src.now) }
     ensures { bits buf.new ≡ paste (bits buf.old) at (bits src.now) (8 * length src.now) }
 {
     for (i, b) in src.iter().enumerate() {
@@ -53,12 +55,11 @@ pub(crate) fn put_octets(buf: &mut [u8], at: usize, src: &[u8])
 
 // Bytes are filled by the bits from a place on.
 pub(crate) fn get_octets(buf: &[u8], at: usize, out: &mut [u8])
-    requires { (at + 8 * length out.old ≤ 8 * length buf.now) × (at + 8 * length out.old < 65536) }
+    requires { HasBits buf.now at (8 * length out.old) }
     ensures { out.new ≡ octets (length out.old) (drop at (bits buf.now)) }
 {
-    let n = out.len();
-    for i in 0..n {
-        out[i] = get_bits(buf, at + 8 * i, 8) as u8;
+    for (i, byte) in out.iter_mut().enumerate() {
+        *byte = get_bits(buf, at + 8 * i, 8) as u8;
     }
 }
 

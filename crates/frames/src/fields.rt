@@ -9,7 +9,7 @@ pub enum AddressWidth {
     Five = 5,
 }
 
-// An address of 3 to 5 bytes, low byte first, at the front of `held`.
+// An address of 3 to 5 bytes, low byte first, at the front of `held`: fixed memory, since the engine allocates nothing.
 #[derive(Clone, Copy)]
 pub struct Address {
     pub(crate) held: [u8; 5],
@@ -29,7 +29,7 @@ pub enum Pid {
 #[derive(Clone, Copy, Debug, PartialEq, Eq)]
 pub struct OutOfRange;
 
-// 0 to 32 bytes, at the front of `held`.
+// 0 to 32 bytes, at the front of `held`: fixed memory, since the engine allocates nothing.
 #[derive(Clone, Copy)]
 pub struct Payload {
     pub(crate) held: [u8; 32],

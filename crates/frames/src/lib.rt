@@ -5,6 +5,7 @@ mod bits;
 mod damage;
 mod fields;
 mod laws;
+mod layout;
 mod making;
 mod packing;
 mod reading;

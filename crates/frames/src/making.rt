@@ -38,7 +38,7 @@ impl AddressWidth {
 }
 
 impl Address {
-    // An address of these bytes, low byte first; there are 3 to 5.
+    // An address of these bytes, low byte first; there are 3 to 5. No TryFrom: an error would say no more than None does.
     pub fn new(given: &[u8]) -> Option<Address>
         ensures { MatchOption result ((3 ≤ length given.now → length given.now ≤ 5 → ⊥)) (λ a. address_bytes a ≡ given.now) }
     {
@@ -125,7 +125,7 @@ impl Pid {
 }
 
 impl Payload {
-    // A payload of these bytes; there are at most 32.
+    // A payload of these bytes; there are at most 32. No TryFrom: an error would say no more than None does.
     pub fn new(given: &[u8]) -> Option<Payload>
         ensures bytes { MatchOption result (32 < length given.now) (λ p. payload_bytes p ≡ given.now) }
         ensures whole { result ≡ (if nat_le (length given.now) 32 then Some (payload_of given.now) else None) }

@@ -6,8 +6,9 @@ ghost use Rattle.frames.specs.Calls.{width_of, packet_of, Packed};
 
 use crate::bits::{known_bytes, put_bits, put_octets};
 use crate::fields::{Fields, Refusal};
+use crate::layout::{Layout, check_before};
 use crate::making::known_fields;
-use checks::{Check, Word, bit_at};
+use checks::{Check, bit_at};
 
 // All but the check is written at the front; the answer is how many bits that are.
 fn put_covered(fields: &Fields, frame: &mut [u8]) -> usize
@@ -16,21 +17,20 @@ fn put_covered(fields: &Fields, frame: &mut [u8]) -> usize
     ensures small { result ≤ 313 }
     ensures bits { bits frame.new ≡ paste (bits frame.old) 0 (word 8 (preamble (covered (packet_of fields.now))) ++ covered (packet_of fields.now)) result }
 {
-    let width = fields.address.wide.bytes();
-    let len = fields.payload.len;
+    let layout = Layout::of(fields);
+    let control = layout.wide.control();
     let mut address = [0; 5];
-    let high_first = &mut address[0..width];
-    high_first.copy_from_slice(&fields.address.held[0..width]);
+    let high_first = &mut address[0..layout.wide.bytes()];
+    high_first.copy_from_slice(fields.address.bytes());
     high_first.reverse();
     let preamble = if bit_at(high_first, 0) { 0xAA } else { 0x55 };
-    let mid = 8 + 8 * width;
     put_bits(frame, 0, preamble, 8);
     put_octets(frame, 8, high_first);
-    put_bits(frame, mid, len as u16, 6);
-    put_bits(frame, mid + 6, u16::from(fields.pid.number()), 2);
-    put_bits(frame, mid + 8, u16::from(fields.no_ack), 1);
-    put_octets(frame, mid + 9, &fields.payload.held[0..len]);
-    mid + 9 + 8 * len
+    put_bits(frame, control, layout.len as u16, 6);
+    put_bits(frame, control + 6, u16::from(fields.pid.number()), 2);
+    put_bits(frame, control + 8, u16::from(fields.no_ack), 1);
+    put_octets(frame, layout.payload(), fields.payload.bytes());
+    layout.check()
 }
 
 // The frame's bytes, spare bits 0; later bytes stay. The answer is the bit count.
@@ -44,7 +44,7 @@ pub fn pack<C: Check>(fields: &Fields, frame: &mut [u8]) -> Result<usize, Refusa
     }
     known_bytes(frame);
     let end = put_covered(fields, frame);
-    let check = C::of(&frame[1..], end - 8).number();
+    let check = check_before::<C>(frame, end);
     let width = C::size();
     put_bits(frame, end, check, width);
     put_bits(frame, end + width, 0, 7);

@@ -1,69 +1,86 @@
-ghost use Rattle.std.specs.Prelude.{◌≡◌, ℕ, ◌+◌, ◌*◌, ◌<◌, ◌≤◌, length, take, drop, IfSome, if◌then◌else◌, Some, None, ◌==◌, nat_le};
+ghost use Rattle.std.specs.Prelude.{◌≡◌, ℕ, ◌+◌, ◌*◌, ◌≤◌, length, take, IfSome, if◌then◌else◌, Some, None, option_map, nat_le};
 ghost use Rattle.checks.specs.Bits.{bits};
-ghost use Rattle.frames.specs.Octets.{number};
-ghost use Rattle.frames.specs.Packet.{length_field, count_fits, fields_at};
-ghost use Rattle.frames.specs.Calls.{width_of, pid_number, packet_of, Reads, Exact};
+ghost use Rattle.frames.specs.Packet.{length_field, count_fits, fields_at, reading};
+ghost use Rattle.frames.specs.Calls.{width_of, packet_of, heard_packet, Checked, Reads, Exact};
 
 use crate::bits::{get_bits, get_octets};
 use crate::fields::{Address, AddressWidth, Fields, Heard, Payload, Pid, Refusal};
-use checks::{Check, Word, bit_at};
+use crate::layout::{Layout, check_before};
+use checks::{Check, bit_at};
 
 // Whether bytes hold that many bits.
 fn holds(bytes: &[u8], count: usize) -> bool
     ensures { result ≡ nat_le count (8 * length bytes.now) }
 {
-    count / 8 < bytes.len() || count / 8 == bytes.len() && count % 8 == 0
+    count.div_ceil(8) <= bytes.len()
 }
 
-// The length of the payload, where the bit count fits.
-fn payload_length(frame: &[u8], count: usize, width: usize, size: usize) -> Option<usize>
-    requires { (count ≤ 8 * length frame.now) × ((size ≤ 16) × ((3 ≤ width) × (width ≤ 5))) }
-    ensures value { result ≡ (if count_fits size width (take count (bits frame.now)) then Some (length_field width (take count (bits frame.now))) else None) }
-    ensures places { IfSome result (λ len. (len ≤ 32) × (count ≡ 8 + 8 * width + 9 + 8 * len + size)) }
+// The layout that the length field says, where the bit count fits it.
+fn layout_of(frame: &[u8], count: usize, wide: AddressWidth, size: usize) -> Option<Layout>
+    requires { (count ≤ 8 * length frame.now) × (size ≤ 16) }
+    ensures value { option_map (λ layout. layout.len) result ≡ (if count_fits size (width_of wide) (take count (bits frame.now)) then Some (length_field (width_of wide) (take count (bits frame.now))) else None) }
+    ensures places { IfSome result (λ layout. (layout.wide ≡ wide) × (count ≡ 8 + 8 * width_of wide + 9 + 8 * layout.len + size)) }
 {
-    let mid = 8 + 8 * width;
-    if count < mid + 9 + size {
+    let control = wide.control();
+    if count < control + 9 + size {
         return None;
     }
-    let len = get_bits(frame, mid, 6) as usize;
-    if len > 32 || count != mid + 9 + 8 * len + size {
+    let len = usize::from(get_bits(frame, control, 6));
+    if len > 32 {
         return None;
     }
-    Some(len)
+    let layout = Layout { wide, len };
+    if layout.check() + size == count {
+        Some(layout)
+    } else {
+        None
+    }
 }
 
 // What stands in the places of the fields.
-fn fields_at(frame: &[u8], wide: AddressWidth, len: usize) -> Fields
-    requires { (len ≤ 32) × (8 + 8 * width_of wide + 9 + 8 * len ≤ 8 * length frame.now) }
-    ensures { packet_of result ≡ fields_at (width_of wide) len (bits frame.now) }
+fn fields_at(frame: &[u8], layout: Layout) -> Fields
+    requires { 8 + 8 * width_of layout.wide + 9 + 8 * layout.len ≤ 8 * length frame.now }
+    ensures { packet_of result ≡ fields_at (width_of layout.wide) layout.len (bits frame.now) }
 {
-    let width = wide.bytes();
-    let mid = 8 + 8 * width;
+    let control = layout.wide.control();
     let mut address = [0; 5];
-    let high_first = &mut address[0..width];
+    let high_first = &mut address[0..layout.wide.bytes()];
     get_octets(frame, 8, high_first);
     high_first.reverse();
-    let pid = Pid::try_from(get_bits(frame, mid + 6, 2) as u8).unwrap();
+    let pid = Pid::try_from(get_bits(frame, control + 6, 2) as u8).unwrap();
     let mut payload = [0; 32];
-    get_octets(frame, mid + 9, &mut payload[0..len]);
+    get_octets(frame, layout.payload(), &mut payload[0..layout.len]);
     Fields {
         address: Address {
             held: address,
-            wide,
+            wide: layout.wide,
         },
         pid,
-        no_ack: bit_at(frame, mid + 8),
-        payload: Payload { held: payload, len },
+        no_ack: bit_at(frame, control + 8),
+        payload: Payload {
+            held: payload,
+            len: layout.len,
+        },
     }
 }
 
-// Whether the check after a payload of that length is right.
-fn is_right<C: Check>(frame: &[u8], width: usize, len: usize) -> bool
-    requires { (width ≤ 5) × ((len ≤ 32) × (8 + 8 * width + 9 + 8 * len + C.Check.width ≤ 8 * length frame.now)) }
-    ensures { result ≡ (C.meaning (take (8 * width + 9 + 8 * len) (drop 8 (bits frame.now))) == number (take C.Check.width (drop (8 + 8 * width + 9 + 8 * len) (bits frame.now)))) }
+// What that many bits say: nothing unless bit count and check are right.
+fn heard<C: Check>(frame: &[u8], count: usize, wide: AddressWidth) -> Option<Heard>
+    requires { count ≤ 8 * length frame.now }
+    ensures value { heard_packet result ≡ reading C.Check.width C.meaning (width_of wide) (take count (bits frame.now)) }
+    ensures check { Checked C.meaning result }
 {
-    let end = 8 + 8 * width + 9 + 8 * len;
-    C::of(&frame[1..], end - 8).number() == get_bits(frame, end, C::size())
+    let size = C::size();
+    let layout = layout_of(frame, count, wide, size)?;
+    let end = layout.check();
+    let check = get_bits(frame, end, size);
+    if check_before::<C>(frame, end) != check {
+        return None;
+    }
+    Some(Heard {
+        fields: fields_at(frame, layout),
+        check,
+    })
 }
 
 // What the first bits of a frame say to a reader of addresses of that width: nothing unless bit count and check are right.
@@ -78,18 +95,5 @@ pub fn read<C: Check>(
     if !holds(frame, count) {
         return Err(Refusal::FrameBytes);
     }
-    let size = C::size();
-    let width = wide.bytes();
-    let Some(len) = payload_length(frame, count, width, size) else {
-        return Ok(None);
-    };
-    if is_right::<C>(frame, width, len) {
-        let check = get_bits(frame, 8 + 8 * width + 9 + 8 * len, size);
-        Ok(Some(Heard {
-            fields: fields_at(frame, wide, len),
-            check,
-        }))
-    } else {
-        Ok(None)
-    }
+    Ok(heard::<C>(frame, count, wide))
 }

@@ -1,6 +1,6 @@
 -- The receiver answers a frame: as a repeat, or since it takes the payload.
 use Rattle.std.proofs.Common.{◌≡◌, ℕ, ◌+◌, ◌%◌, ◌<◌, ◌≤◌, Bool, true, false, cond, eqb, ltb, ◌⊎◌, List, [], ◌∷◌, ◌++◌, length, Some, None, Option, sym, refl, ap, ◌∙◌, subst, inl, inr, ⊎_elim, arith, eq-eqb, ne_eqb, eqb-true}
-use Rattle.std.proofs.lemmas.Bool.{and_parts, and_from, ltb-true, ltb-false}
+use Rattle.std.proofs.lemmas.Bool.{and_parts, and_from, ltb-true, ltb-false, cases_eq}
 use Rattle.std.specs.Option.{option_map}
 use Rattle.std.specs.List.{slice_get}
 use Rattle.frames.specs.Packet.{covered, frame_bits}
@@ -20,7 +20,7 @@ use Rattle.law.specs.Lists.{All, SomeOf, In}
 use Rattle.law.specs.Law.{Payload, Answering, Exchange, Receipts, History, Writes, Trials, at, touched, pipe_between, pipe_of_sender, latest, bytes_of}
 use Rattle.law.specs.Law.{pid_of, packet_by, check_of, Mistaken, Lawful}
 use Rattle.law.proofs.Terms.{Fits, Like, AllLike}
-use Rattle.law.proofs.Facts.{all_weaker, all_push, same_or_not}
+use Rattle.law.proofs.Facts.{all_weaker, all_push}
 use Rattle.law.proofs.Inv.{Pending, last_number, EntryOk, EntriesOk, TakenByNow, Before, Rising, ReadBefore, OrderOk, TakenOk, packet_with, memory_with, MemoryOk, Settled, acknowledging, OnAir, Inv}
 use Rattle.law.proofs.Changes.{like_changes, now_there, now_elsewhere}
 use Rattle.law.proofs.Carrying.{tries_carried}
@@ -73,7 +73,7 @@ pub latest_is : (w : ℕ) (c d : Inside) (fits : Fits w c) → AllLike c d → (
     → latest d k ps ≡ option_map (λ n. record { sender = k; number = n }) (last_number k ps)
 unfolding latest last_number
 latest_is w c d fits like x k a one there [] ok = refl
-latest_is w c d fits like x k a one there (p ∷ ps) ok = by (latest_is w c d fits like x k a one there ps ok.1) (same_or_not p.sender k) where
+latest_is w c d fits like x k a one there (p ∷ ps) ok = by (latest_is w c d fits like x k a one there ps ok.1) (cases_eq p.sender k) where
   pipe_p : pipe_of_sender d p.sender ≡ pipe_for fits.receiver.registers ok.0.unit.registers
   pipe_p = pipe_stays c d p.sender like ∙ pipe_is w c fits p.sender ok.0.unit ok.0.there
 
@@ -191,7 +191,7 @@ module _ (w : ℕ) (f : List Bool → ℕ) where
         its_check = check_is c h.writes k n o.unit o.bytes o.there o.written;
         same_check = check_is c h.writes k l o.unit memory.0 o.there memory.1
             ∙ ap Some (eqb-true (f (covered (packet_with o.unit l memory.0))) (f (covered (packet_with o.unit n o.bytes))) parts.1);
-      }))) (same_or_not l n)
+      }))) (cases_eq l n)
 
   -- ---- a payload is taken
 
@@ -207,7 +207,7 @@ module _ (w : ℕ) (f : List Bool → ℕ) where
       let yes : same_memory m (memory_with f a n b) ≡ true = ap (λ z. same_memory z (memory_with f a n b)) known
       ∙ and_from _ _ (eq-eqb ((n + 1) % 4) ((n + 1) % 4) refl) (eq-eqb (f (covered (packet_with a n b))) (f (covered (packet_with a n b))) refl) in
       let z : ◌≡◌ {A = Bool} true false = sym yes ∙ fresh in let y : ◌≡◌ {A = ℕ} 0 1 = cc in absurd (omega arith) in
-      ⊎_elim (λ it. absurd (not_it it)) (λ _. omega (arith, settled, same, below l n settled not_it)) (same_or_not l n) where
+      ⊎_elim (λ it. absurd (not_it it)) (λ _. omega (arith, settled, same, below l n settled not_it)) (cases_eq l n) where
         below : (i j : ℕ) → i ≤ j → (i ≡ j → ⊥) → i < j
         below i j le ne = by (ltb i j) refl where
           by : (t : Bool) → ltb i j ≡ t → i < j
@@ -224,7 +224,7 @@ module _ (w : ℕ) (f : List Bool → ℕ) where
     still_taken : (o : Payload) → TakenByNow taken o → TakenByNow (new ∷ taken) o
     still_taken o t =
         ⊎_elim (λ same. (n, ap (λ j. last_number j (new ∷ taken)) same ∙ last_new k n taken, omega (arith, before_new o t same)))
-        (λ other. (t.0, last_other o.sender k n taken other ∙ t.1, t.2)) (same_or_not o.sender k)
+        (λ other. (t.0, last_other o.sender k n taken other ∙ t.1, t.2)) (cases_eq o.sender k)
 
     rising_push : (ps : List Payload) → Rising ps → All (λ o. Before o new) ps → Rising (ps ++ (new ∷ []))
     rising_push [] r a = (tt, tt)

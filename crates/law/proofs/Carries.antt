@@ -1,5 +1,6 @@
 -- A carry is either nothing heard, or the packet heard once.
 use Rattle.std.proofs.Common.{◌≡◌, ℕ, suc, ◌-◌, ◌*◌, ◌%◌, ◌^◌, ◌<◌, ◌≤◌, Bool, true, false, cond, not, ◌&&◌, eqb, ◌⊎◌, List, [], ◌∷◌, length, get_or, replicate, Some, None, Option, sym, refl, ap, ◌∙◌, subst, ap₂, inl, inr, arith, rules}
+use Rattle.unit.proofs.Holds.{either_way}
 use Rattle.std.specs.Option.{option_map}
 use Rattle.std.proofs.lemmas.List.{get_or-set_same, length-set}
 use Rattle.std.proofs.lemmas.Bool.{le-ltb, eqb-true, eq-eqb, and_parts, and_from, cond-true, cond-false, cond_both}
@@ -37,9 +38,6 @@ use Rattle.cell.specs.Calls.{unit_at, with_air, heard_by_unit, answer_bits, hear
 use Rattle.law.specs.Lists.{All}
 use Rattle.law.specs.Law.{spoils}
 use Rattle.law.proofs.Terms.{Fits, Like, AllLike, hears_packet, each_hears, answer_to, hearing}
-
-either_way : {X : Type 0} (P : X → Type 0) (b : Bool) (x y : X) → P x → P y → P (cond b x y)
-either_way P b x y p q = cond_both b x y P (λ _. p) (λ _. q)
 
 -- ---- a packet heard again leaves the unit as it is, and has the same answer
 

@@ -1,6 +1,7 @@
 -- Every carry keeps the invariant.
 use Rattle.std.proofs.Common.{◌≡◌, ℕ, zero, suc, ◌+◌, ◌-◌, ◌^◌, ◌<◌, ◌≤◌, Bool, true, false, cond, ◌&&◌, eqb, ltb, leb, ◌⊎◌, List, [], ◌∷◌, length, get_or, Some, None, Ok, Err, Option, sym, refl, ap, ◌∙◌, subst, inl, inr, ⊎_elim, arith, length-drop, le-ltb, lt-ltb, eq-eqb, ne_eqb, leb-true}
-use Rattle.std.proofs.lemmas.Bool.{and_parts, cond-true, cond-false, cond_both}
+use Rattle.queue.proofs.Kept.{popped_rest}
+use Rattle.std.proofs.lemmas.Bool.{and_parts, cond-true, cond-false, cond_both, cases_eq}
 use Rattle.std.proofs.lemmas.Slice.Eq.{bytes_eq-Decides}
 use Rattle.std.specs.Str.{bytes_eq}
 use Rattle.std.specs.Option.{option_map}
@@ -34,10 +35,10 @@ use Rattle.law.specs.Runs.{carry, answer_of, outcome}
 use Rattle.law.specs.Law.{Payload, History, at, oldest, rx_length, tx_length, spoils, ready, ready_by, pipe_of_sender, touched, touching, taking, answering, shrank, note_counting, note_frame, note_aired, note_fate, note}
 use Rattle.law.specs.Law.{Mistaken, OfBytesInside}
 use Rattle.law.proofs.Terms.{Fits, Like, hears_packet, each_hears, answer_to, hearing}
-use Rattle.law.proofs.Facts.{same_or_not, at_there, at_elsewhere, nth_all}
+use Rattle.law.proofs.Facts.{at_there, at_elsewhere, nth_all}
 use Rattle.law.proofs.Inv.{Sendable, SenderOk, last_number, Pending, Settled, acknowledging, packet_with, OnAir, AirOk, Inv}
 use Rattle.law.proofs.Changes.{now_there, now_elsewhere}
-use Rattle.law.proofs.Tails.{popped_rest, tail_length, waiting_tries}
+use Rattle.law.proofs.Tails.{tail_length, waiting_tries}
 use Rattle.law.proofs.Carries.{carries}
 use Rattle.law.proofs.Carrying.{by_places, none_counted, same_shrank, none_taken, quiet_carry}
 use Rattle.law.proofs.Answering.{pipe_stays, pipe_is}
@@ -126,7 +127,7 @@ module _ (w : ℕ) (f : List Bool → ℕ) where
 
   -- a place at which what hears stays as it is
   place_same : (d : Inside) (from : ℕ) (p : Packet) (j : ℕ) → ((j ≡ from → ⊥) → (s : State) → unit_at d j ≡ Some s → hears_packet w f p s ≡ s) → unit_at (hearing w f d from p) j ≡ unit_at d j
-  place_same d from p j same = heard_at d from p j ∙ by (same_or_not j from) where
+  place_same d from p j same = heard_at d from p j ∙ by (cases_eq j from) where
     there : (m : Option State) → ((s : State) → m ≡ Some s → hears_packet w f p s ≡ s) → option_map (hears_packet w f p) m ≡ m
     there None g = refl
     there (Some s) g = ap Some (g s refl)
@@ -319,7 +320,7 @@ module _ (w : ℕ) (f : List Bool → ℕ) where
             all_stay : (j : ℕ) → unit_at t_answered j ≡ unit_at d j
             all_stay j = ⊎_elim
                 (λ same. ap (unit_at t_answered) same ∙ sender_at ∙ ap Some (idle s its_answer (f (covered its_answer)) role_s idle_now) ∙ sym e ∙ ap (unit_at d) (sym same))
-                (λ other. rest_stays j other) (same_or_not j k)
+                (λ other. rest_stays j other) (cases_eq j k)
 
       awaited : is_waiting s.core.mode ≡ true → Inv w f c t_answered (note_frame true fate d t_answered its_payload (note_counting d t_answered h))
       awaited waits =
@@ -362,7 +363,7 @@ module _ (w : ℕ) (f : List Bool → ℕ) where
 
             places : (j : ℕ) → unit_at (with_unit d k (delivered s)) j ≡ unit_at t_answered j
             places j = ⊎_elim (λ same. ap (unit_at (with_unit d k (delivered s))) same ∙ now_there d k s (delivered s) e ∙ sym (ap (unit_at t_answered) same ∙ sender_at ∙ ap Some accepted))
-                (λ other. now_elsewhere d k j (delivered s) other ∙ sym (rest_stays j other)) (same_or_not j k)
+                (λ other. now_elsewhere d k j (delivered s) other ∙ sym (rest_stays j other)) (cases_eq j k)
 
       answer_heard_by : (b : Bool) → is_waiting s.core.mode ≡ b → Inv w f c t_answered (note_frame true fate d t_answered its_payload (note_counting d t_answered h))
       answer_heard_by true waits = awaited waits

@@ -1,5 +1,7 @@
 -- A carry after which the air is empty and no unit changed; and what every carry needs.
 use Rattle.std.proofs.Common.{◌≡◌, ℕ, suc, ◌≤◌, Bool, true, false, cond, ◌&&◌, ◌||◌, ltb, ◌⊎◌, List, [], ◌∷◌, length, drop, Some, Option, sym, refl, ap, ◌∙◌, subst, inl, inr, ⊎_elim, append-nil, arith, le-ltb, None}
+use Rattle.std.proofs.Math.Bool.{or-true, and-false}
+use Rattle.std.proofs.lemmas.Bool.{cases_eq}
 use Rattle.std.proofs.Math.Path.{fun_ext}
 use Rattle.modes.specs.declared.parts.Mode.{Mode}
 use Rattle.modes.specs.declared.parts.Mode.TheVariants.{Shutdown, Starting, Standby, IdleTx, Tuning, Rx, Waiting}
@@ -12,7 +14,7 @@ use Rattle.cell.specs.Calls.{unit_at, with_air}
 use Rattle.law.specs.Lists.{All}
 use Rattle.law.specs.Law.{Payload, Exchange, Counting, History, at, oldest, tx_length, touched, touching, taking, shrank, note_counting, with_receipts}
 use Rattle.law.proofs.Terms.{Like}
-use Rattle.law.proofs.Facts.{at_there, at_elsewhere, same_or_not}
+use Rattle.law.proofs.Facts.{at_there, at_elsewhere}
 use Rattle.law.proofs.Inv.{Failed, TriesOk, Pending, AirOk, Inv}
 use Rattle.law.proofs.Ticks.{repend}
 
@@ -88,14 +90,6 @@ none_taken n p h e =
 
 -- ---- the newest exchange
 
-pub or_true : (b : Bool) → b || true ≡ true
-or_true true = refl
-or_true false = refl
-
-pub and_false : (b : Bool) → b && false ≡ false
-and_false true = refl
-and_false false = refl
-
 length_touched : (bad free : Bool) (xs : List Exchange) → length (touched bad free xs) ≡ length xs
 length_touched bad free [] = refl
 length_touched bad free (x ∷ xs) = refl
@@ -107,7 +101,7 @@ rest_touched bad free (x ∷ xs) = refl
 failed_touched : (bad free : Bool) (xs : List Exchange) → (bad ≡ true) ⊎ (free ≡ false) → All Failed (drop 1 xs) → All Failed (touched bad free xs)
 failed_touched bad free [] why a = tt
 failed_touched bad free (x ∷ xs) why a =
-    (⊎_elim (λ e. inl (ap (λ b. x.spoiled || b) e ∙ or_true x.spoiled)) (λ e. inr (ap (λ b. x.ready && b) e ∙ and_false x.ready)) why, a)
+    (⊎_elim (λ e. inl (ap (λ b. x.spoiled || b) e ∙ or-true x.spoiled)) (λ e. inr (ap (λ b. x.ready && b) e ∙ and-false x.ready)) why, a)
 
 -- it failed, or what is pending goes on
 pub touched_tries : (m : Mode) (again arc : ℕ) (bad free : Bool) (xs : List Exchange) (P Q : Type 0) → (is_waiting m ≡ true → Q ⊎ ((bad ≡ true) ⊎ (free ≡ false)))
@@ -143,7 +137,7 @@ module _ (w : ℕ) (f : List Bool → ℕ) where
       (λ other.
       subst (λ l. TriesOk s.core.mode s.core.counts.again (retry_of s.registers).count l (Pending a o v)) (sym (at_elsewhere k v (touched bad free (h.trials.exchanges k)) h.trials.exchanges other))
       (repend s.core.mode s.core.counts.again (retry_of s.registers).count (h.trials.exchanges v) (Pending d.air h.aired v) (Pending a o v)
-      (λ p. absurd (other (only v p))) (i.tries v s one there))) (same_or_not v k)
+      (λ p. absurd (other (only v p))) (i.tries v s one there))) (cases_eq v k)
 
   -- nobody heard anything, or nobody that heard it changed
   pub quiet_carry : (c d : Inside) (h : History) (k : ℕ) (bad free : Bool)

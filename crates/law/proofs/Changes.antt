@@ -1,5 +1,7 @@
 -- One unit changes, and the notes with it: what the rest of the invariant asks.
 use Rattle.std.proofs.Common.{◌≡◌, ℕ, ◌≤◌, Bool, true, List, [], length, Some, None, Option, sym, refl, ap, ◌∙◌, subst, inl, inr, ⊎_elim, arith}
+use Rattle.std.proofs.lemmas.List.{get_or-set_same, get_or-set_other}
+use Rattle.std.proofs.lemmas.Bool.{cases_eq}
 use Rattle.queue.specs.Entries.{entries}
 use Rattle.modes.specs.Modes.{is_waiting}
 use Rattle.unit.specs.declared.state.State.{State}
@@ -12,17 +14,17 @@ use Rattle.law.specs.Lists.{All}
 use Rattle.law.specs.Law.{Payload, Read, Writes, Trials, Receipts, History, with_receipts, pipe_of_sender}
 use Rattle.law.specs.Law.{ReadsAWrite, InOrder, OverBudget, Lawful}
 use Rattle.law.proofs.Terms.{Like, AllLike}
-use Rattle.law.proofs.Facts.{same_or_not, set_there, set_elsewhere, there_within}
+use Rattle.law.proofs.Facts.{there_within}
 use Rattle.law.proofs.Inv.{SenderOk, TriesOk, Pending, EntriesOk, MemoryOk, last_number, OrderOk, PayloadFrame, OnAir, AirOk, Inv}
 use Rattle.law.proofs.Grows.{Extends, entries_grow, taken_grows, mistaken_grows, accounted_grows, memory_grows, reads_grow}
 
 -- ---- a unit in place of another
 
 pub now_there : (d : Inside) (u : ℕ) (s t : State) → unit_at d u ≡ Some s → unit_at (with_unit d u t) u ≡ Some t
-now_there d u s t e = set_there d.places.at u (Some t) None (there_within d.places.at u s e)
+now_there d u s t e = get_or-set_same d.places.at u (Some t) None (there_within d.places.at u s e)
 
 pub now_elsewhere : (d : Inside) (u v : ℕ) (t : State) → (v ≡ u → ⊥) → unit_at (with_unit d u t) v ≡ unit_at d v
-now_elsewhere d u v t n = set_elsewhere d.places.at u v (Some t) None n
+now_elsewhere d u v t n = get_or-set_other d.places.at u v (Some t) None n
 
 -- what is at a place afterwards is the new unit, or what was there
 pub now_is : (P : ℕ → State → Type 0) (d : Inside) (u : ℕ) (s t : State) → unit_at d u ≡ Some s → P u t
@@ -33,7 +35,7 @@ now_is P d u s t e here there v y k =
     let at_u : unit_at (with_unit d u t) u ≡ Some y = subst (λ i. unit_at (with_unit d u t) i ≡ Some y) same k in
     let it : t ≡ y = cc (now_there d u s t e, at_u) in
     subst (λ i. P i y) (sym same) (subst (λ z. P u z) it here))
-    (λ other. there v y other (sym (now_elsewhere d u v t other) ∙ k)) (same_or_not v u)
+    (λ other. there v y other (sym (now_elsewhere d u v t other) ∙ k)) (cases_eq v u)
 
 like_next : (a : Option State) (s t : State) → t.registers ≡ s.registers → t.fault ≡ None → length t.memories.at ≡ 6 → Like a (Some s) → Like a (Some t)
 like_next None s t r f m h = absurd h
@@ -44,7 +46,7 @@ pub like_changes : (c d : Inside) (u : ℕ) (s t : State) → unit_at d u ≡ So
 like_changes c d u s t e r f m i v =
     ⊎_elim (λ same. subst (λ i. Like (unit_at c i) (unit_at (with_unit d u t) i)) (sym same)
     (subst (λ z. Like (unit_at c u) z) (sym (now_there d u s t e)) (like_next (unit_at c u) s t r f m (subst (λ z. Like (unit_at c u) z) e (i u)))))
-    (λ other. subst (λ z. Like (unit_at c v) z) (sym (now_elsewhere d u v t other)) (i v)) (same_or_not v u)
+    (λ other. subst (λ z. Like (unit_at c v) z) (sym (now_elsewhere d u v t other)) (i v)) (cases_eq v u)
 
 module _ (w : ℕ) (f : List Bool → ℕ) where
   -- the frame on the air goes on to be what it was

@@ -1,6 +1,7 @@
 -- A sender accepts the acknowledgement of its oldest payload.
 use Rattle.std.proofs.Common.{◌≡◌, ℕ, suc, ◌<◌, ◌≤◌, Bool, true, false, cond, not, ◌&&◌, eqb, ◌⊎◌, List, [], ◌∷◌, length, drop, Some, None, sym, refl, ap, ◌∙◌, subst, inl, inr, ⊎_elim, arith, lt-ltb, Option}
-use Rattle.std.proofs.lemmas.Bool.{and_parts, not-true, eqb-false}
+use Rattle.queue.proofs.Kept.{popped_rest}
+use Rattle.std.proofs.lemmas.Bool.{and_parts, not-true, eqb-false, cases_eq}
 use Rattle.queue.specs.Entries.{entries, popped}
 use Rattle.modes.specs.declared.parts.Core.{Core}
 use Rattle.modes.specs.declared.parts.Mode.{Mode}
@@ -16,11 +17,10 @@ use Rattle.cell.specs.Calls.{unit_at, with_unit, with_air}
 use Rattle.law.specs.Lists.{All, SomeOf, In}
 use Rattle.law.specs.Law.{Counting, Exchange, History, Writes, oldest}
 use Rattle.law.specs.Law.{Mistaken, Accounted}
-use Rattle.law.proofs.Facts.{same_or_not}
 use Rattle.law.proofs.Inv.{SenderOk, trying, TriesOk, Pending, numbered, AirOk, Inv}
 use Rattle.law.proofs.Grows.{Extends, mistaken_grows}
 use Rattle.law.proofs.Changes.{sender_changes, now_there}
-use Rattle.law.proofs.Tails.{popped_rest, tail_rest, tail_length, tries_none, waiting_tries}
+use Rattle.law.proofs.Tails.{tail_rest, tail_length, tries_none, waiting_tries}
 use Rattle.law.proofs.Senders.{resting_idle}
 use Rattle.law.proofs.Ticks.{repend}
 
@@ -92,7 +92,7 @@ module _ (w : ℕ) (f : List Bool → ℕ) where
       in_order = i.law.in_order;
       sent_means_taken = λ j. ⊎_elim
           (λ it. subst (λ v. All (Accounted f c h.writes) (counted v)) (sym it) (subst (λ l. All (Accounted f c h.writes) l) (sym here) (ok, i.law.sent_means_taken k)))
-          (λ other. subst (λ l. All (Accounted f c h.writes) l) (sym (elsewhere j other)) (i.law.sent_means_taken j)) (same_or_not j k);
+          (λ other. subst (λ l. All (Accounted f c h.writes) l) (sym (elsewhere j other)) (i.law.sent_means_taken j)) (cases_eq j k);
       no_giving_up_within_the_retry_budget = i.law.no_giving_up_within_the_retry_budget;
     };
   } where
@@ -140,7 +140,7 @@ module _ (w : ℕ) (f : List Bool → ℕ) where
       let x : Writes = record { written = h.writes.written; gone = gone } in
       let grow : Extends h.writes x = record {
         more = λ j m b z. z;
-        later = λ j. ⊎_elim (λ it. subst (λ v. h.writes.gone v ≤ gone v) (sym it) (omega (arith, gone_here))) (λ other. omega (arith, gone_there j other)) (same_or_not j k);
+        later = λ j. ⊎_elim (λ it. subst (λ v. h.writes.gone v ≤ gone v) (sym it) (omega (arith, gone_here))) (λ other. omega (arith, gone_there j other)) (cases_eq j k);
       } in
       let left = not (eqb (length (entries (popped s.tx))) 0) in
       let rest : entries (popped s.tx) ≡ numbered (suc (h.writes.gone k)) (drop (suc (h.writes.gone k)) (h.writes.written k)) =

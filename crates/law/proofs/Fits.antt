@@ -1,10 +1,10 @@
 -- A newly made cell fits together.
 use Rattle.std.proofs.Common.{◌≡◌, ℕ, zero, suc, pred, ◌-◌, ◌<◌, ◌≤◌, Bool, true, false, cond, not, ◌&&◌, eqb, ltb, List, [], ◌∷◌, ◌++◌, map, length, get_or, take, replicate, is_some, Some, None, Option, sym, refl, ap, ◌∙◌, subst, inl, inr, append_assoc, append-nil, arith}
+use Rattle.queue.proofs.Kept.{drained}
 use Rattle.std.proofs.lemmas.Slice.Eq.{bytes_eq-Decides}
 use Rattle.std.proofs.lemmas.List.{get_or-take, take-map, drop-replicate}
 use Rattle.std.proofs.lemmas.Bool.{true≢false, false≢true, not-true, and_parts, or_parts, eqb-true, eqb-false, ne_eqb, cases_order}
 use Rattle.queue.specs.declared.queue.Queue.{Queue}
-use Rattle.queue.specs.declared.queue.Queue.TheVariants.{Empty, One, Two, Three}
 use Rattle.queue.specs.Entries.{entries}
 use Rattle.frames.specs.declared.fields.Pid.{Pid}
 use Rattle.frames.specs.declared.fields.Pid.TheVariants.{Zero, One as PidOne, Two as PidTwo, Three as PidThree}
@@ -67,12 +67,6 @@ first_pid Zero h = refl
 first_pid PidOne h = absurd (false≢true h)
 first_pid PidTwo h = absurd (false≢true h)
 first_pid PidThree h = absurd (false≢true h)
-
-drained : {X : Type 0} (q : Queue X) → eqb (length (entries q)) 0 ≡ true → q ≡ Empty
-drained Empty h = refl
-drained (One a) h = absurd (false≢true h)
-drained (Two a b) h = absurd (false≢true h)
-drained (Three a b c) h = absurd (false≢true h)
 
 all_none : {X : Type 0} (n : ℕ) (xs : List (Option X)) → length xs ≡ n → nothing_in xs ≡ true → xs ≡ replicate n None
 all_none zero [] e h = refl

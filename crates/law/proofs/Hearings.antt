@@ -1,6 +1,8 @@
 -- A payload's frame is heard: the receiver drops it, answers a repeat, or takes the payload.
 use Rattle.std.proofs.Common.{◌≡◌, ℕ, ◌-◌, Bool, true, false, cond, ◌&&◌, eqb, ltb, leb, ◌⊎◌, List, [], ◌∷◌, ◌++◌, length, Some, None, sym, refl, ap, ◌∙◌, subst, inl, inr, ⊎_elim, arith, le-ltb, eqb-true}
-use Rattle.std.proofs.lemmas.Bool.{and_from, le-leb, cond-true, cond_both, eqb-false}
+use Rattle.queue.proofs.Kept.{pushed_last}
+use Rattle.std.proofs.Math.Bool.{and-false}
+use Rattle.std.proofs.lemmas.Bool.{and_from, le-leb, cond-true, cond_both, eqb-false, cases_eq}
 use Rattle.std.proofs.lemmas.List.{get_or-set_same, get_or-set_other, length-set, length_push}
 use Rattle.frames.specs.Packet.{Packet, covered, frame_bits}
 use Rattle.queue.specs.Entries.{entries}
@@ -22,22 +24,20 @@ use Rattle.cell.specs.Making.{pipe_for, same_pipe}
 use Rattle.cell.specs.Calls.{unit_at, with_unit, with_air}
 use Rattle.law.specs.Law.{Payload, History, touching, taking, answering, pipe_of_sender, latest}
 use Rattle.law.proofs.Terms.{Fits}
-use Rattle.law.proofs.Facts.{same_or_not}
 use Rattle.law.proofs.Inv.{Sendable, last_number, Pending, MemoryOk, Settled, PayloadFrame, acknowledging, packet_with, memory_with, OnAir, Inv}
 use Rattle.law.proofs.Changes.{now_there, now_elsewhere}
-use Rattle.law.proofs.Tails.{pushed_last}
 use Rattle.law.proofs.Ticks.{some_bits}
 use Rattle.law.proofs.Carries.{index_below}
-use Rattle.law.proofs.Carrying.{and_false, by_places, none_taken, quiet_carry}
+use Rattle.law.proofs.Carrying.{by_places, none_taken, quiet_carry}
 use Rattle.law.proofs.Answering.{last_new, last_other, pipe_is, answers, repeated, newer, order_push, entries_push}
 
 nobody : (a b : Bool) → a && (b && false) ≡ false
-nobody a b = ap (λ z. a && z) (and_false b) ∙ and_false a
+nobody a b = ap (λ z. a && z) (and-false b) ∙ and-false a
 
 -- the same unit in its place
 pub same_place : (d : Inside) (u : ℕ) (s : State) → unit_at d u ≡ Some s → (v : ℕ) → unit_at (with_unit d u s) v ≡ unit_at d v
 same_place d u s e v =
-    ⊎_elim (λ same. ap (λ i. unit_at (with_unit d u s) i) same ∙ now_there d u s s e ∙ sym e ∙ ap (λ i. unit_at d i) (sym same)) (λ other. now_elsewhere d u v s other) (same_or_not v u)
+    ⊎_elim (λ same. ap (λ i. unit_at (with_unit d u s) i) same ∙ now_there d u s s e ∙ sym e ∙ ap (λ i. unit_at d i) (sym same)) (λ other. now_elsewhere d u v s other) (cases_eq v u)
 
 -- an entry is made of a payload that can be written
 pub makes_entry : (b : List ℕ) → Sendable b → entry_of b ≡ Some (data_of b)
@@ -125,7 +125,7 @@ module _ (w : ℕ) (f : List Bool → ℕ) where
         subst (λ l. MemoryOk f a (h.writes.written j) l (recalled t.memories p)) (sym (last_other j k n h.receipts.taken other))
         (subst (λ m. MemoryOk f a (h.writes.written j) (last_number j h.receipts.taken) m)
         (sym (get_or-set_other r.memories.at (index_of q) (index_of p) (Some (memory_with f o.unit n o.bytes)) None (eqb-false (index_of p) (index_of q) apart)))
-        (i.memories r e j a one there p its))) (same_or_not j k))
+        (i.memories r e j a one there p its))) (cases_eq j k))
         (record { sender = o.sender; unit = o.unit; there = o.there; gone = o.gone; bytes = o.bytes; written = o.written }, i.taken)
         (order_push w f k n h.receipts.taken fresh_one h.receipts.unread h.receipts.reads i.order) refl (inl (inl refl))
 
@@ -174,5 +174,5 @@ module _ (w : ℕ) (f : List Bool → ℕ) where
         (λ unlike. after_dropped (inr (is_free ∙ ap (λ b. is_rx r.core.mode && (ltb (length (entries r.rx)) 3 && b)) unlike ∙ nobody (is_rx r.core.mode) (ltb (length (entries r.rx)) 3))))
         after_repeat
         (λ full. after_dropped (inr (is_free ∙ ap (λ b. is_rx r.core.mode && (b && eqb (length o.bytes) (byte_of r.registers (width_register q))))
-        (le-ltb (length (entries r.rx)) 3 (omega (arith, eqb-true (length (entries r.rx)) 3 full))) ∙ and_false (is_rx r.core.mode))))
+        (le-ltb (length (entries r.rx)) 3 (omega (arith, eqb-true (length (entries r.rx)) 3 full))) ∙ and-false (is_rx r.core.mode))))
         (after_taking settled)

@@ -1,7 +1,8 @@
 -- Commands, CE and ticks at the receiver keep the invariant.
 use Rattle.std.proofs.Common.{◌≡◌, ℕ, ◌+◌, ◌*◌, ◌<◌, ◌≤◌, Bool, true, false, not, eqb, List, [], ◌∷◌, ◌++◌, length, take, drop, replicate, Some, None, Ok, Err, Option, Result, sym, refl, ap, ◌∙◌, subst, ap₂, ⊎_elim, arith}
+use Rattle.queue.proofs.Kept.{popped_rest}
 use Rattle.std.proofs.lemmas.List.{length-replicate, take_at}
-use Rattle.std.proofs.lemmas.Bool.{true≢false, eq-eqb, ne_eqb, cond-false, cond_both}
+use Rattle.std.proofs.lemmas.Bool.{true≢false, eq-eqb, ne_eqb, cond-false, cond_both, cases_eq}
 use Rattle.std.specs.Option.{option_map}
 use Rattle.queue.specs.declared.queue.Queue.TheVariants.{Empty as no_entries}
 use Rattle.queue.specs.Entries.{entries, first, popped}
@@ -35,10 +36,9 @@ use Rattle.law.specs.Law.{Payload, Read, Writes, History, pipe_between, pipe_of_
 use Rattle.law.specs.Law.{one_if, ReadsAWrite, Later, InOrder, OverBudget}
 use Rattle.law.proofs.Terms.{Fits}
 use Rattle.law.proofs.Carries.{index_below}
-use Rattle.law.proofs.Facts.{same_or_not, at_elsewhere}
+use Rattle.law.proofs.Facts.{at_elsewhere}
 use Rattle.law.proofs.Inv.{TriesOk, Pending, EntryOk, EntriesOk, Before, ReadBefore, ReadByNow, TakenByNow, OrderOk, TakenOk, last_number, Inv}
 use Rattle.law.proofs.Changes.{receiver_changes, air_changes}
-use Rattle.law.proofs.Tails.{popped_rest}
 use Rattle.law.proofs.Senders.{first_none, sound_refusal, note_ce}
 use Rattle.law.proofs.Ticks.{data_back}
 
@@ -78,7 +78,7 @@ one_on_pipe w c fits j k n s t l m a b x y =
     let q : option_map index_of (pipe_for fits.receiver.registers t.registers) ≡ Some n =
     ap₂ (λ u v. option_map index_of (pipe_between u v)) (sym fits.there) (sym b) ∙ y in
     absurd (true≢false (sym (same_index _ _ n p q) ∙ fits.apart j k s t l m a b other)))
-    (same_or_not j k)
+    (cases_eq j k)
 
 -- what was taken is of a sender of the cell
 module _ (c : Inside) (x : Writes) where
@@ -87,7 +87,7 @@ module _ (c : Inside) (x : Writes) where
   taken_from k m [] h a = let z : ◌≡◌ {A = ℕ} 0 1 = cc in absurd (omega arith)
   taken_from k m (p ∷ ps) h a =
       ⊎_elim (λ e. subst (λ j. (1 ≤ j) × (s : State) × (unit_at c j ≡ Some s)) e (a.0.sender, a.0.unit, a.0.there))
-      (λ n. taken_from k m ps (sym (cond-false (eqb p.sender k) _ _ (ne_eqb p.sender k n)) ∙ h) a.1) (same_or_not p.sender k)
+      (λ n. taken_from k m ps (sym (cond-false (eqb p.sender k) _ _ (ne_eqb p.sender k n)) ∙ h) a.1) (cases_eq p.sender k)
 
 -- ---- the oldest unread payload is read
 

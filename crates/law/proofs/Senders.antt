@@ -1,7 +1,8 @@
 -- Commands and CE at a sender keep the invariant.
 use Rattle.std.proofs.Common.{◌≡◌, ℕ, suc, ◌+◌, ◌-◌, ◌≤◌, Bool, true, false, cond, not, ◌&&◌, eqb, ltb, leb, List, [], ◌∷◌, ◌++◌, length, get_or, take, drop, replicate, Some, None, Ok, Err, Option, Result, sym, refl, ap, ◌∙◌, subst, inl, inr, add-one, arith, leb-true}
+use Rattle.queue.proofs.Kept.{pushed_last}
 use Rattle.std.proofs.lemmas.List.{length_push}
-use Rattle.std.proofs.lemmas.Bool.{and_parts}
+use Rattle.std.proofs.lemmas.Bool.{and_parts, not-false}
 use Rattle.std.specs.List.{slice_get}
 use Rattle.frames.specs.Packet.{Bytes}
 use Rattle.frames.specs.Calls.{next_pid}
@@ -30,7 +31,7 @@ use Rattle.law.specs.Law.{History, at, wrote, flushed, note_order, note}
 use Rattle.law.proofs.Facts.{all_push, at_there, at_elsewhere, at_each, nth_push}
 use Rattle.law.proofs.Inv.{Sendable, trying, SenderOk, TriesOk, Pending, pid_at, numbered, Inv}
 use Rattle.law.proofs.Changes.{sender_changes}
-use Rattle.law.proofs.Tails.{pushed_last, next_identity, tail_push, tail_none, Calm, tries_none, calm_tries, calm_waits, calm_busy, waiting_tries}
+use Rattle.law.proofs.Tails.{next_identity, tail_push, tail_none, Calm, tries_none, calm_tries, calm_waits, calm_busy, waiting_tries}
 
 -- ---- refusals
 
@@ -44,10 +45,6 @@ fault_none (Some r) y h = let z : ◌≡◌ {A = ℕ} 0 1 = cc in absurd (omega 
 
 pub sound_refusal : (s : State) (room : ℕ) (o : Result Order UnitRefusal) → s.fault ≡ None → refusal s room o ≡ order_refusal s room o
 sound_refusal s room o h = fault_none s.fault (order_refusal s room o) h
-
-pub not_false : (b : Bool) → not b ≡ false → b ≡ true
-not_false true h = refl
-not_false false h = sym h
 
 -- ---- which bytes are a payload's
 
@@ -255,7 +252,7 @@ module _ (w : ℕ) (f : List Bool → ℕ) where
       let two = first_none (not (leb 1 (length b) && leb (length b) 32)) DataLength _ one.1 in
       let three = first_none (ltb room 1) ReplyRoom _ two.1 in
       let four = first_none (tx_full s) QueueFull _ three.1 in
-      let fits = and_parts (leb 1 (length b)) (leb (length b) 32) (not_false (leb 1 (length b) && leb (length b) 32) two.0) in
+      let fits = and_parts (leb 1 (length b)) (leb (length b) 32) (not-false (leb 1 (length b) && leb (length b) 32) two.0) in
       write_keeps c d h u s b pos e i sound long
       (record { some = leb-true 1 (length b) fits.0; few = leb-true (length b) 32 fits.1; bytes = payload_bytes host b is bytes }) four.0
   done_keeps c d h u s host reply room (read_payload b) pos e i sound long role bytes is free =

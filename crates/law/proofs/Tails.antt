@@ -1,9 +1,6 @@
 -- A sender's queue as the tail of what it wrote, and its modes.
-use Rattle.std.proofs.Common.{◌≡◌, ℕ, zero, suc, ◌+◌, ◌%◌, ◌<◌, ◌≤◌, Bool, true, false, eqb, ◌⊎◌, List, [], ◌∷◌, ◌++◌, length, drop, sym, refl, ap, ◌∙◌, subst, ⊎_elim, arith}
+use Rattle.std.proofs.Common.{◌≡◌, ℕ, zero, suc, ◌+◌, ◌%◌, ◌<◌, ◌≤◌, Bool, true, false, ◌⊎◌, List, [], ◌∷◌, ◌++◌, length, drop, sym, refl, ap, ◌∙◌, subst, ⊎_elim, arith}
 use Rattle.std.proofs.lemmas.List.{drop_all, drop-append-le, drop-drop}
-use Rattle.queue.specs.declared.queue.Queue.{Queue}
-use Rattle.queue.specs.declared.queue.Queue.TheVariants.{Empty, One, Two, Three}
-use Rattle.queue.specs.Entries.{entries, pushed, popped}
 use Rattle.frames.specs.declared.fields.Pid.{Pid}
 use Rattle.frames.specs.declared.fields.Pid.TheVariants.{Zero, One as PidOne, Two as PidTwo, Three as PidThree}
 use Rattle.frames.specs.Calls.{next_pid, pid_number}
@@ -13,26 +10,6 @@ use Rattle.modes.specs.Modes.{is_waiting}
 use Rattle.unit.specs.Entries.{data_of}
 use Rattle.law.specs.Law.{Exchange}
 use Rattle.law.proofs.Inv.{pid_at, numbered, trying, TriesOk}
-
--- ---- the queue
-
-pub pushed_last : {T : Type 0} (q : Queue T) (x : T) → eqb (length (entries q)) 3 ≡ false → entries (pushed q x) ≡ entries q ++ (x ∷ [])
-pushed_last Empty x h = refl
-pushed_last (One a) x h = refl
-pushed_last (Two a b) x h = refl
-pushed_last (Three a b c) x h = let z : ◌≡◌ {A = ℕ} 0 1 = cc in absurd (omega arith)
-
-pub popped_rest : {T : Type 0} (q : Queue T) → entries (popped q) ≡ drop 1 (entries q)
-popped_rest Empty = refl
-popped_rest (One a) = refl
-popped_rest (Two a b) = refl
-popped_rest (Three a b c) = refl
-
-pub few_entries : {T : Type 0} (q : Queue T) → length (entries q) ≤ 3
-few_entries Empty = omega arith
-few_entries (One a) = omega arith
-few_entries (Two a b) = omega arith
-few_entries (Three a b c) = omega arith
 
 -- ---- numbers of payloads
 

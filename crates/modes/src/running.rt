@@ -1,5 +1,5 @@
 ghost use Rattle.std.specs.Prelude.{◌≡◌};
-ghost use Rattle.modes.specs.Modes.{resting, wait_ticks, begun, given_up, ticked, sends, leveled, acknowledged, flushed, reconfigured, is_waiting, is_rx, busy};
+ghost use Rattle.modes.specs.Modes.{at_rest, wait_ticks, begun, given_up, ticked, sends, leveled, acknowledged, flushed, reconfigured, is_waiting, is_rx, busy};
 
 use crate::parts::{Core, Mode, Retry, Role};
 use registers::stands;
@@ -9,17 +9,6 @@ const START_TICKS: u16 = 200;
 
 // Until a receiver listens, or a sender sends.
 const TUNING_TICKS: u16 = 13;
-
-// Where a powered unit with nothing under way is.
-fn resting(role: Role, ce: bool) -> Mode
-    ensures { result ≡ resting role ce }
-{
-    match (role, ce) {
-        (_, false) => Mode::Standby,
-        (Role::Sender, true) => Mode::IdleTx,
-        (Role::Receiver, true) => Mode::Tuning { left: TUNING_TICKS },
-    }
-}
 
 impl Retry {
     // How long an acknowledgement is waited for.
@@ -63,6 +52,17 @@ impl Mode {
 }
 
 impl Core {
+    // Goes where a powered unit with nothing under way is.
+    fn rest(&mut self, role: Role)
+        ensures { self.new ≡ at_rest role self.old }
+    {
+        self.mode = match (role, self.ce) {
+            (_, false) => Mode::Standby,
+            (Role::Sender, true) => Mode::IdleTx,
+            (Role::Receiver, true) => Mode::Tuning { left: TUNING_TICKS },
+        };
+    }
+
     // A transaction begins.
     fn begin(&mut self)
         ensures { self.new ≡ begun self.old }
@@ -77,7 +77,7 @@ impl Core {
     {
         self.flags.max_rt = true;
         self.counts.lost = self.counts.lost.saturating_add(1).min(15);
-        self.mode = resting(role, self.ce);
+        self.rest(role);
     }
 
     // One tick; `waiting` says whether a payload stands in the TX queue. The answer says whether the oldest payload is sent.
@@ -89,7 +89,7 @@ impl Core {
             (Mode::Starting { left }, _) if left > 1 => self.mode = Mode::Starting {
                 left: left - 1,
             },
-            (Mode::Starting { .. }, _) => self.mode = resting(role, self.ce),
+            (Mode::Starting { .. }, _) => self.rest(role),
             (Mode::IdleTx, _) if waiting && !self.flags.max_rt => self.begin(),
             (Mode::Tuning { left }, _) if left > 1 => self.mode = Mode::Tuning { left: left - 1 },
             (Mode::Tuning { .. }, Role::Receiver) => self.mode = Mode::Rx,
@@ -118,7 +118,7 @@ impl Core {
         }
         self.ce = high;
         match (self.mode, role) {
-            (Mode::Standby, _) if high => self.mode = resting(role, true),
+            (Mode::Standby, _) if high => self.rest(role),
             (Mode::IdleTx, _) if !high => self.mode = Mode::Standby,
             (Mode::Tuning { .. } | Mode::Rx, Role::Receiver) if !high => self.mode = Mode::Standby,
             _ => {}
@@ -133,7 +133,7 @@ impl Core {
         if self.ce && left {
             self.begin();
         } else {
-            self.mode = resting(Role::Sender, self.ce);
+            self.rest(Role::Sender);
         }
     }
 
@@ -142,7 +142,7 @@ impl Core {
         ensures { self.new ≡ flushed self.old }
     {
         if self.mode.is_busy() {
-            self.mode = resting(Role::Sender, self.ce);
+            self.rest(Role::Sender);
         }
     }
 

@@ -1,5 +1,7 @@
 -- The laws of a boxed unit.
-use Rattle.std.proofs.Common.{◌≡◌, ℕ, Bool, true, false, cond, not, ◌&&◌, eqb, ◌⊎◌, List, [], ◌∷◌, ◌++◌, length, take, drop, Some, None, Ok, Err, Option, Result, sym, refl, ap, ◌∙◌, inl, inr, append-nil, arith, rules}
+use Rattle.std.proofs.Common.{◌≡◌, ℕ, Bool, true, false, cond, not, ◌&&◌, eqb, ◌⊎◌, List, [], ◌∷◌, ◌++◌, length, take, Some, None, Ok, Err, Option, Result, sym, refl, ap, ◌∙◌, inl, inr, append-nil, arith, rules}
+use Rattle.queue.proofs.Kept.{popped_rest}
+use Rattle.std.proofs.lemmas.Bool.{cond_both}
 use Rattle.std.proofs.lemmas.List.{get_or-set_other}
 use Rattle.checks.specs.Bits.{bits}
 use Rattle.frames.specs.Packet.{Packet, covered, reading}
@@ -44,14 +46,9 @@ refused_changes_nothing w f = record {
 
 -- ---- by cases
 
-either_way : {X : Type 0} (P : X → Type 0) (b : Bool) (x y : X) → P x → P y → P (cond b x y)
+pub either_way : {X : Type 0} (P : X → Type 0) (b : Bool) (x y : X) → P x → P y → P (cond b x y)
 either_way P true x y p q = p
 either_way P false x y p q = q
-
--- with the test in hand
-by_test : {X : Type 0} (P : X → Type 0) (b : Bool) (x y : X) → (b ≡ true → P x) → (b ≡ false → P y) → P (cond b x y)
-by_test P true x y p q = p refl
-by_test P false x y p q = q refl
 
 -- ---- memories
 
@@ -127,12 +124,6 @@ done_wait s (Ok (flush_tx d)) h = absurd (let z : ◌≡◌ {A = ℕ} 0 1 = cc i
 done_wait s (Ok (flush_rx d)) h = still s
 done_wait s (Ok (nop d)) h = still s
 
-gone : (q : Queue Outgoing) → entries (popped q) ≡ drop 1 (entries q)
-gone Empty = refl
-gone (One a) = refl
-gone (Two a b) = refl
-gone (Three a b c) = refl
-
 module _ (s : State) where
   Either : State → Type 0
   Either t = StillWait s t ⊎ Acknowledged s t
@@ -163,7 +154,7 @@ module _ (s : State) where
       let left : Bool = not (eqb (length (entries (popped s.tx))) 0) in
       record {
         waited = h;
-        oldest = gone s.tx;
+        oldest = popped_rest s.tx;
         flag = either_way (λ (c : Core). c.flags.tx_ds ≡ true) (s.core.ce && left) _ _ refl refl;
         received = refl;
         identity = refl;
@@ -177,7 +168,7 @@ module _ (s : State) where
   from_hears p check =
       either_way Ends (is_receiver s.registers) _ _
       (either_way Ends (is_rx s.core.mode) _ _ (from_pipe p (record { pid = p.pid; check = check }) (pipe_of s.registers p.address)) (untouched None))
-      (by_test Ends (is_waiting s.core.mode) _ _ (λ h. either_way Ends (is_acknowledgement s p) _ _ (acknowledges h) (untouched None)) (λ _. untouched None))
+      (cond_both (is_waiting s.core.mode) _ _ Ends (λ h. either_way Ends (is_acknowledgement s p) _ _ (acknowledges h) (untouched None)) (λ _. untouched None))
 
   from_packet : (f : List Bool → ℕ) (o : Option Packet) → Ends (heard_packet f s o)
   from_packet f None = untouched None

@@ -1,15 +1,16 @@
 -- What a boxed unit makes of a frame that reaches it.
 use Rattle.std.specs.Prelude.{ℕ, ◌*◌, Bool, true, false, cond, not, ◌&&◌, List, [], ◌∷◌, length, take, Some, None, Option, Result, ◌==◌, nat_lt, slice_index_or, slice_set}
+use Rattle.std.specs.List.{find}
 use Rattle.std.specs.Str.{bytes_eq}
 use Rattle.checks.specs.Bits.{bits}
 use Rattle.frames.specs.Packet.{Packet, covered, buffer_after, reading}
 use Rattle.queue.specs.Entries.{entries, pushed, popped}
 use Rattle.registers.specs.declared.pipe.Pipe.{Pipe}
-use Rattle.registers.specs.declared.pipe.Pipe.TheVariants.{P0, P1, P2, P3, P4, P5}
+use Rattle.registers.specs.declared.pipe.Pipe.TheVariants.{P0}
 use Rattle.registers.specs.declared.register.Register.TheVariants.{SetupAw}
 use Rattle.registers.specs.declared.held.Registers.{Registers}
 use Rattle.registers.specs.File.{byte_of}
-use Rattle.registers.specs.Pipes.{index_of, width_register}
+use Rattle.registers.specs.Pipes.{index_of, pipes, width_register}
 use Rattle.registers.specs.Readings.{width_of, pipe_address}
 use Rattle.commands.specs.declared.refusal.Refusal.{Refusal}
 use Rattle.commands.specs.declared.refusal.Refusal.TheVariants.{FrameBytes}
@@ -42,15 +43,9 @@ remembered m q x = record { at = slice_set m.at (index_of q) (Some x) }
 abbrev pub on_pipe : Registers → List ℕ → Pipe → Bool
 on_pipe f address q = enabled f q && bytes_eq (in_use f (pipe_address f q)) address
 
--- the pipe of a receiver with this address
+-- the first pipe of a receiver with this address
 abbrev pub pipe_of : Registers → List ℕ → Option Pipe
-pipe_of f a =
-    cond (on_pipe f a P0) (Some P0)
-    (cond (on_pipe f a P1) (Some P1)
-    (cond (on_pipe f a P2) (Some P2)
-    (cond (on_pipe f a P3) (Some P3)
-    (cond (on_pipe f a P4) (Some P4)
-    (cond (on_pipe f a P5) (Some P5) None)))))
+pipe_of f a = find (on_pipe f a) pipes
 
 -- ---- an outcome: the state afterwards, and the packet that is answered
 

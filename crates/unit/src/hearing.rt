@@ -37,24 +37,13 @@ fn is_on_pipe(registers: &Registers, address: &Address, pipe: Pipe) -> bool
 fn pipe_of(registers: &Registers, address: &Address) -> Option<Pipe>
     ensures { result ≡ pipe_of registers.now (address_bytes address.now) }
 {
-    if is_on_pipe(registers, address, Pipe::P0) {
-        Some(Pipe::P0)
-    } else if is_on_pipe(registers, address, Pipe::P1) {
-        Some(Pipe::P1)
-    } else if is_on_pipe(registers, address, Pipe::P2) {
-        Some(Pipe::P2)
-    } else if is_on_pipe(registers, address, Pipe::P3) {
-        Some(Pipe::P3)
-    } else if is_on_pipe(registers, address, Pipe::P4) {
-        Some(Pipe::P4)
-    } else if is_on_pipe(registers, address, Pipe::P5) {
-        Some(Pipe::P5)
-    } else {
-        None
-    }
+    Pipe::all()
+        .iter()
+        .find(|pipe| is_on_pipe(registers, address, **pipe))
+        .copied()
 }
 
-// The answer to a frame, if it wants one.
+// The answer to a frame, if it wants one: its NO_ACK is 0, as the frame's is then.
 fn acknowledge(fields: &Fields) -> Option<Fields>
     ensures { option_map packet_of result ≡ acknowledgement (packet_of fields.now) }
 {
@@ -90,9 +79,7 @@ impl State {
         self.memories.remember(pipe, memory);
         acknowledge(&heard.fields)
     }
-}
 
-impl State {
     fn hear_as_receiver(&mut self, heard: &Heard) -> Option<Fields>
         ensures after { self.new ≡ (heard_by_receiver self.old (packet_of heard.now.fields) heard.now.check).state }
         ensures answer { option_map packet_of result ≡ (heard_by_receiver self.old (packet_of heard.now.fields) heard.now.check).answer }
@@ -131,7 +118,7 @@ impl State {
 
 impl<C: Check> Boxed<C> {
     // A frame reaches the unit: the first `count` bits of its bytes. The answer is the bit count of the frame that is sent
-    // back, 0 for none; it stands in the buffer.
+    // back, 0 for none, as the radio's calls have it (docs/HEARING.md); it stands in the buffer.
     #[tactic(auto, unfolding(frames::specs::Octets::octets))]
     pub fn hear(&mut self, frame: &[u8], count: usize, buffer: &mut [u8]) -> Result<usize, Refusal>
         ensures answer { result ≡ hear_answer C.Check.width C.meaning self.old.state frame.now count (length buffer.old) }
@@ -140,6 +127,7 @@ impl<C: Check> Boxed<C> {
     {
         self.state.ensure_sound()?;
         ensure_frame_fits(buffer)?;
+        // no `?` alone: neither refusal is a type of this crate, so it can write no From for them
         let heard = frames::read::<C>(frame, count, address_width(&self.state.registers)).map_err(
             |_| Refusal::FrameBytes,
         )?;

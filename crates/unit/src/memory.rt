@@ -6,7 +6,7 @@ pub struct Memory {
     pub check: u16,
 }
 
-// The memories of the six pipes; a pipe that took nothing yet has none.
+// The memories of the six pipes, by their numbers; a pipe that took nothing yet has none.
 #[derive(Clone, Copy)]
 pub struct Memories {
     pub at: [Option<Memory>; 6],

@@ -51,11 +51,13 @@ pub(crate) fn put_frame<C: Check>(fields: Option<Fields>, buffer: &mut [u8]) -> 
     let Some(fields) = fields else {
         return 0;
     };
-    frames::pack::<C>(&fields, buffer).unwrap_or(0)
+    // a buffer with room is not refused
+    frames::pack::<C>(&fields, buffer).unwrap()
 }
 
 impl<C: Check> Boxed<C> {
-    // One tick of 10 µs. The answer is the bit count of the frame that is sent, 0 for none; it stands in the buffer.
+    // One tick of 10 µs. The answer is the bit count of the frame that is sent, 0 for none, as the radio's calls have it
+    // (docs/MODES.md); it stands in the buffer.
     pub fn tick(&mut self, buffer: &mut [u8]) -> Result<usize, Refusal>
         ensures answer { result ≡ tick_answer C.Check.width C.meaning self.old.state (length buffer.old) }
         ensures state { self.new.state ≡ tick_after self.old.state (length buffer.old) }

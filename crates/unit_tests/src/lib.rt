@@ -13,8 +13,7 @@ mod tests {
     use unit::Boxed;
 
     fn is_refused(refusal: Refusal, number: u8, register: Option<u8>) -> bool {
-        refusal.number() == number
-            && refusal.register().map(|found| found.address()) == register
+        refusal.number() == number && refusal.register().map(|found| found.address()) == register
     }
 
     // The bytes wanted, and behind them what was in the buffer.
@@ -34,26 +33,22 @@ mod tests {
         }
     }
 
-    // A call with a buffer of that room.
-    fn answers<F: FnOnce(&mut [u8]) -> Result<usize, Refusal>>(
-        room: usize,
-        answer: Answer,
-        call: F,
-    ) -> bool
-        requires { F.IsAlwaysCallable call }
+    // Whether a test holds of a call with a buffer of that room.
+    fn in_buffer<F: FnOnce(&mut [u8]) -> bool>(room: usize, test: F) -> bool
+        requires { F.IsAlwaysCallable test }
     {
         let mut buffer = [0xA5; 48];
-        let part = &mut buffer[..room.min(48)];
-        let result = call(part);
-        is_answered(result, part, answer)
+        test(&mut buffer[..room.min(48)])
     }
 
     fn command<C: Check>(unit: &mut Boxed<C>, bytes: &[u8], room: usize, answer: Answer) -> bool {
-        answers(room, answer, |part| unit.command(bytes, part))
+        in_buffer(room, |part| {
+            is_answered(unit.command(bytes, part), part, answer)
+        })
     }
 
     fn tick<C: Check>(unit: &mut Boxed<C>, room: usize, answer: Answer) -> bool {
-        answers(room, answer, |part| unit.tick(part))
+        in_buffer(room, |part| is_answered(unit.tick(part), part, answer))
     }
 
     fn ticks<C: Check>(unit: &mut Boxed<C>, times: usize) -> bool {
@@ -67,7 +62,9 @@ mod tests {
         room: usize,
         answer: Answer,
     ) -> bool {
-        answers(room, answer, |part| unit.hear(frame, bits, part))
+        in_buffer(room, |part| {
+            is_answered(unit.hear(frame, bits, part), part, answer)
+        })
     }
 
     fn ce<C: Check>(unit: &mut Boxed<C>, high: bool, answer: Answer) -> bool {
@@ -152,7 +149,11 @@ mod tests {
 
     #[test]
     fn refusals_of_receiver(rt: HostRuntime) {
-        both(&rt, &REFUSALS_OF_RECEIVER_NARROW, &REFUSALS_OF_RECEIVER_WIDE);
+        both(
+            &rt,
+            &REFUSALS_OF_RECEIVER_NARROW,
+            &REFUSALS_OF_RECEIVER_WIDE,
+        );
     }
 
     #[test]

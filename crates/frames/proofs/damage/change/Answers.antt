@@ -2,10 +2,9 @@ use Rattle.std.proofs.Common.{◌≡◌, ℕ, ◌+◌, ◌-◌, ◌/◌, ◌^◌
 use lib.Bits.{bit_and}
 use Rattle.std.proofs.lemmas.Nat.{and_mask}
 use Rattle.std.proofs.lemmas.Bool.{eq-eqb, ne_eqb}
-use Rattle.frames.proofs.Places.{getD_word}
 use Rattle.std.proofs.lemmas.List.{take_all, length-take}
 use Rattle.checks.specs.Bits.{word, bits}
-use Rattle.checks.specs.Places.{length_word}
+use Rattle.checks.specs.Places.{bit_of_word, length_word}
 use Rattle.frames.specs.Damage.{changed}
 use Rattle.frames.proofs.Turn.{left_out, turn_more, nothing_yet}
 use Rattle.frames.proofs.damage.change.Goals as goal
@@ -25,7 +24,7 @@ loop-i-preserved c =
     let lt : i < length ys = omega (arith, length_word 16 c.args.pattern) in
     let x = c.args.pattern / 2 ^ (15 - i) in
     let tie : get_or ys i false ≡ eqb (bit_and x 1) 1 =
-    getD_word 16 c.args.pattern i (omega arith) ∙ sym (ap (λ (v : ℕ). eqb v 1) (and_mask x 1)) in
+    bit_of_word 16 c.args.pattern i (omega arith) ∙ sym (ap (λ (v : ℕ). eqb v 1) (and_mask x 1)) in
     let short : length (take n b) ≤ n = omega (arith, length-take n b) in
     elim c.if-pattern-i-eq1.branch [
       | then-pattern-i-eq1+then-start-count+then-i-count w ↦

@@ -1,5 +1,4 @@
-use Rattle.std.proofs.Common.{◌≡◌, ℕ, ◌+◌, ◌-◌, ◌⊎◌, List, length, take, drop, sym, ap, ◌∙◌, subst, arith}
-use Rattle.std.proofs.lemmas.List.{take_rest}
+use Rattle.std.proofs.Common.{◌≡◌, ℕ, ◌+◌, ◌-◌, ◌⊎◌, length, take, drop, sym, ap, ◌∙◌, subst, arith}
 use Rattle.checks.specs.Bits.{word, bits}
 use Rattle.checks.specs.Places.{length_word}
 use Rattle.frames.specs.Packet.{covered, preamble, frame_bits, buffer_after}
@@ -14,13 +13,12 @@ returns g c =
     let s = packet_of c.args.fields.now in
     let xs = c.put_covered-end.new.frame in
     let n = c.put_covered-end.result in
-    let cov : take (n - 8) (bits (drop 1 xs)) ≡ covered s =
+    let cov : take (n - 8) (drop 8 (bits xs)) ≡ covered s =
     covered_read xs (bits c.args.frame.now) (word 8 (preamble (covered s))) (covered s) n (length_word 8 (preamble (covered s)))
     c.put_covered-end.ensures.count c.put_covered-end.ensures.bits in
-    let ev : c.number-check.result ≡ f (covered s) =
-    c.number-check.ensures ∙ c.of.ensures ∙ ap (λ (u : List ℕ). f (take (n - 8) (bits u))) (take_rest xs 1) ∙ ap f cov in
+    let ev : c.check_before-check.result ≡ f (covered s) = c.check_before-check.ensures ∙ ap f cov in
     let size = c.size-width.result in
-    let r = close_up f size s c.args.frame.now c.put_bits-2.new.buf n c.number-check.result _ _
+    let r = close_up f size s c.args.frame.now c.put_bits-2.new.buf n c.check_before-check.result _ _
     (subst (λ (x : ℕ). (x ≡ 8) ⊎ (x ≡ 16)) (sym c.size-width.ensures) g.met.C.Check.wide)
     c.known_bytes.ensures (λ i. (c.type_inv.frame i).fits) (omega arith) (omega arith) c.put_covered-end.ensures.count
     c.put_covered-end.ensures.small ev c.put_covered-end.ensures.bits c.put_bits.ensures c.put_bits-2.ensures in

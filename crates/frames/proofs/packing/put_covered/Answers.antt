@@ -1,4 +1,4 @@
-use Rattle.std.proofs.Common.{◌≡◌, ℕ, ◌+◌, ◌-◌, ◌*◌, Bool, cond, ◌++◌, reverse, length, take, sym, ap, ◌∙◌, arith, rules}
+use Rattle.std.proofs.Common.{◌≡◌, ℕ, ◌+◌, ◌*◌, Bool, cond, ◌++◌, reverse, length, sym, ap, ◌∙◌, ap₂, arith, rules}
 use lib.Seq.{paste}
 use Rattle.std.proofs.lemmas.List.{length-reverse}
 use Rattle.checks.specs.Bits.{word, bits}
@@ -12,16 +12,12 @@ pub returns : goal.returns
 returns c =
     let f = c.args.fields.now in
     let s = packet_of f in
-    let width = c.bytes-width.result in
+    let width = width_of f.address.wide in
     let len = f.payload.len in
     let hs = c.reverse.new.self in
-    let ps = take (len - 0) f.payload.held in
-    let z : width - 0 ≡ width_of f.address.wide = omega (arith, c.bytes-width.ensures.value) in
-    let zp : len - 0 ≡ len = omega arith in
-    let eh : hs ≡ reverse s.address =
-    c.reverse.ensures.after ∙ ap reverse c.copy_from_slice.ensures.after
-    ∙ ap (λ (n : ℕ). reverse (take n f.address.held)) z in
-    let ep : ps ≡ s.payload = ap (λ (n : ℕ). take n f.payload.held) zp in
+    let eh : hs ≡ reverse s.address = c.reverse.ensures.after ∙ ap reverse (c.copy_from_slice.ensures.after ∙ c.bytes-2.ensures) in
+    let ps = c.bytes-3.result.now in
+    let ep = c.bytes-3.ensures.value in
     let lh : length hs ≡ width = search rules in
     let lp : length ps ≡ len = search rules in
     let la : length s.address ≡ width = omega (arith, length-reverse s.address, ap length eh) in
@@ -32,11 +28,24 @@ returns c =
       | else-bit_at w ↦ w.preamble-is ∙ ap (λ (b : Bool). cond b 0xAA 0x55) (sym w.if-bit_at.false ∙ c.bit_at.ensures)
     ] in
     let e : c.if-bit_at.preamble ≡ preamble (covered s) = pre ∙ sym (preamble_from s hs eh (omega arith)) in
+    let control : c.control-control.result ≡ 8 + 8 * width =
+    omega (arith, c.control-control.ensures.value, ap width_of c.of-layout.ensures.wide) in
+    let payload : c.payload.result ≡ 8 + 8 * width + 9 = omega (arith, c.payload.ensures.value, ap width_of c.of-layout.ensures.wide) in
+    let end : c.check.result ≡ 8 + 8 * width + 9 + 8 * len =
+    omega (arith, c.check.ensures.value, ap width_of c.of-layout.ensures.wide, c.of-layout.ensures.len) in
+    let b2 = bits c.put_octets.new.buf in
+    let b3 = bits c.put_bits-2.new.buf in
+    let b4 = bits c.put_bits-3.new.buf in
+    let b5 = bits c.put_bits-4.new.buf in
+    let f3 = c.put_bits-2.ensures ∙ ap₂ (λ (at n : ℕ). paste b2 at (word 6 n) 6) control c.of-layout.ensures.len in
+    let f4 = c.put_bits-3.ensures ∙ ap (λ (at : ℕ). paste b3 (at + 6) (word 2 c.from.result) 2) control in
+    let f5 = c.put_bits-4.ensures ∙ ap (λ (at : ℕ). paste b4 (at + 8) (word 1 c.from-2.result) 1) control in
+    let f6 = c.put_octets-2.ensures ∙ ap (λ (at : ℕ). paste b5 at (bits ps) (8 * length ps)) payload in
     record {
       count = omega (arith, length_covered s);
       small = omega arith;
       bits =
-          put_all s width len _ _ _ hs ps (bits c.args.frame.now) _ _ _ _ _ _ lh lp eh ep (c.from.ensures ∙ c.number.ensures.value) c.from-2.ensures c.put_bits.ensures c.put_octets.ensures
-          c.put_bits-2.ensures c.put_bits-3.ensures c.put_bits-4.ensures c.put_octets-2.ensures
-          ∙ ap (λ (x : ℕ). paste (bits c.args.frame.now) 0 (word 8 x ++ covered s) (8 + 8 * width + 9 + 8 * len)) e;
+          put_all s width len _ _ _ hs ps (bits c.args.frame.now) _ _ _ _ _ _ lh lp eh ep (c.from.ensures ∙ c.number.ensures.value) c.from-2.ensures
+          c.put_bits.ensures c.put_octets.ensures f3 f4 f5 f6
+          ∙ ap₂ (λ (x n : ℕ). paste (bits c.args.frame.now) 0 (word 8 x ++ covered s) n) e (sym end);
     }

@@ -10,20 +10,20 @@ use Rattle.frames.proofs.reading.fields_at.Goals as goal
 pub returns : goal.returns
 returns c =
     let b = bits c.args.frame.now in
-    let width = width_of c.args.wide in
-    let is = c.bytes-width.ensures.value in
-    let len = c.args.len in
+    let width = width_of c.args.layout.wide in
+    let len = c.args.layout.len in
+    let control = c.control-control.ensures.value in
     let zeros : ℕ → List ℕ = λ n. replicate n 0 in
-    let lw : length (take (c.bytes-width.result - 0) (zeros 5)) ≡ width = length-take-le _ (zeros 5) (omega arith) ∙ omega (arith, is) in
-    let ll : length (take (len - 0) (zeros 32)) ≡ len = length-take-le (len - 0) (zeros 32) (omega arith) ∙ omega arith in
+    let lw : length (take (c.bytes.result - 0) (zeros 5)) ≡ width = length-take-le _ (zeros 5) (omega arith) ∙ omega (arith, c.bytes.ensures.value) in
+    let ll : length (take (len - 0) (zeros 32)) ≡ len = length-take-le (len - 0) (zeros 32) (omega (arith, c.args.layout.fits)) ∙ omega arith in
     let ea : c.reverse.new.self ≡ reverse (octets width (drop 8 b)) =
     c.reverse.ensures.after ∙ ap reverse (c.get_octets.ensures ∙ ap (λ (n : ℕ). octets n (drop 8 b)) lw) in
     let ep : c.get_octets-2.new.out ≡ octets len (drop (8 + 8 * width + 9) b) =
-    c.get_octets-2.ensures ∙ ap₂ (λ (n v : ℕ). octets n (drop (8 + 8 * v + 9) b)) ll is in
+    c.get_octets-2.ensures ∙ ap₂ (λ (n at : ℕ). octets n (drop at b)) ll c.payload.ensures.value in
     let pid : pid_number c.unwrap-pid.result ≡ c.get_bits.result =
     subst (PidOrNone c.get_bits.result) c.unwrap-pid.ensures c.try_from.ensures in
     same
     (take_at c.reverse.new.self _ width (omega (arith, lw)) ∙ ea)
-    (pid ∙ c.get_bits.ensures.value ∙ ap (λ (v : ℕ). number (take 2 (drop (8 + 8 * v + 6) b))) is)
-    (c.bit_at.ensures ∙ ap (λ (v : ℕ). get_or b (8 + 8 * v + 8) false) is)
+    (pid ∙ c.get_bits.ensures.value ∙ ap (λ (at : ℕ). number (take 2 (drop (at + 6) b))) control)
+    (c.bit_at.ensures ∙ ap (λ (at : ℕ). get_or b (at + 8) false) control)
     (take_at c.get_octets-2.new.out _ len (omega (arith, ap length ep, length_octets len (drop (8 + 8 * width + 9) b))) ∙ ep)
