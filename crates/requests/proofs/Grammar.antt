@@ -7,15 +7,15 @@ use Rattle.words.specs.Bytes.{bytes_after}
 use Rattle.requests.specs.declared.lines.Kind.TheVariants.{Crc8, Crc16}
 use Rattle.requests.specs.declared.lines.Form.TheVariants as form
 use Rattle.requests.specs.declared.lines.Cannot.{Cannot}
-use Rattle.requests.specs.declared.lines.Cannot.TheVariants.{Word, TooFew, TooMany, PayloadLength}
+use Rattle.requests.specs.declared.lines.Cannot.TheVariants.{Word, TooFew, PayloadLength}
 use Rattle.requests.specs.declared.lines.Wanted.TheVariants as want
 use Rattle.requests.specs.declared.lines.Line.{Line}
 use Rattle.requests.specs.declared.lines.Stop.{Stop}
 use Rattle.requests.specs.declared.lines.Stop.TheVariants.{Cannot as Unable, Memory}
-use Rattle.requests.specs.Lines.{asked, Gives, Request, kind, pack, read, unit, bench, check, box, irq, then, or_else, kind_named, address_of, number_in, as_bytes, kind_line, pack_line, read_line, unit_form_named, line_as, line_of}
+use Rattle.requests.specs.Lines.{asked, Gives, Request, kind, pack, read, unit, bench, check, box, irq, then, or_else, kind_named, address_of, number_in, as_bytes, kind_line, pack_line, read_line, line_of}
 use Rattle.requests.specs.Grammar.{Settled, Asks, kind_crc8, kind_crc16, packs, reads, fields, benches, checks, boxes, irqs, loads, commands, commands_with}
-use Rattle.requests.proofs.Steps.{never, ok_same, then_ok, unless, number_fits, number_parts, address_fits, address_parts, bytes_fit, bytes_parts, named}
-use Rattle.requests.proofs.UnitLines.{label_fits, fields_complete, loads_complete, commands_complete, commands_with_complete, unit_line}
+use Rattle.requests.proofs.Steps.{never, ok_same, then_ok, unless, enough, begun, three_words, bytes_last, number_fits, number_parts, address_fits, address_parts, bytes_fit, bytes_parts, named}
+use Rattle.requests.proofs.UnitLines.{label_fits, fields_complete, loads_complete, commands_complete, commands_with_complete, choose, unit_line}
 
 -- ---- from the words to the answer
 
@@ -23,34 +23,21 @@ complete : (ws : List (List ℕ)) (q : Request) → Asks ws q → line_of ws ≡
 complete ws q kind_crc8 = refl
 complete ws q kind_crc16 = refl
 complete ws q (packs a p n bs address pid no_ack payload a-is a-low a-high p-is p-high n-is n-high b-are b-few) =
-    let few : ltb (length (codes "pack" ∷ a ∷ p ∷ n ∷ bs)) 4 ≡ false = le-ltb _ 4 (omega arith) in
-    let last : List ℕ → ℕ → Bool → List ℕ → Result Request Cannot =
-    λ x y z v. cond (ltb 32 (length v)) (Err PayloadLength) (Ok (pack (record { address = x; pid = y; no_ack = z; payload = v }))) in
-    let x = reverse address in
-    let z = eqb no_ack 1 in
-    let all : Result (List ℕ) Cannot → Result ℕ Cannot → Result ℕ Cannot → Result (List ℕ) Cannot → Result Request Cannot =
-    λ ra rp rn rb. then ra (λ u. then rp (λ v. then (then rn (λ m. Ok (eqb m 1))) (λ t. then rb (λ s. last u v t s)))) in
-    let ra = or_else (address_of a) (Word 2 want.Address) in
-    let rp = number_in 0 3 (Word 3 want.Pid) (decimal_of p) in
-    let rn = number_in 0 1 (Word 4 want.NoAck) (decimal_of n) in
-    let rb = as_bytes (bytes_after [] 4 bs) in
-    ap (λ b. cond b (Err (TooFew form.Pack)) (all ra rp rn rb)) few
-    ∙ ap (λ r. all r rp rn rb) (address_fits (Word 2 want.Address) (together_of a) address a-is a-low a-high)
-    ∙ ap (λ r. all (Ok x) r rn rb) (number_fits 0 3 (Word 3 want.Pid) (decimal_of p) pid p-is (omega arith) p-high)
-    ∙ ap (λ r. all (Ok x) (Ok pid) r rb) (number_fits 0 1 (Word 4 want.NoAck) (decimal_of n) no_ack n-is (omega arith) n-high)
-    ∙ ap (λ r. all (Ok x) (Ok pid) (Ok no_ack) r) (bytes_fit bs payload [] 4 b-are)
-    ∙ ap (λ b. cond b (Err PayloadLength) (Ok (pack (record { address = x; pid = pid; no_ack = z; payload = payload })))) (le-ltb 32 (length payload) b-few)
+    rw (
+      enough 4 (codes "pack" ∷ a ∷ p ∷ n ∷ bs) (omega arith),
+      address_fits (Word 2 want.Address) (together_of a) address a-is a-low a-high,
+      number_fits 0 3 (Word 3 want.Pid) (decimal_of p) pid p-is (omega arith) p-high,
+      number_fits 0 1 (Word 4 want.NoAck) (decimal_of n) no_ack n-is (omega arith) n-high,
+      bytes_fit bs payload [] 4 b-are,
+      le-ltb 32 (length payload) b-few,
+    ) refl
 complete ws q (reads w n bs width bits bytes w-is w-low w-high n-is n-high b-are) =
-    let few : ltb (length (codes "read" ∷ w ∷ n ∷ bs)) 3 ≡ false = le-ltb _ 3 (omega arith) in
-    let all : Result ℕ Cannot → Result ℕ Cannot → Result (List ℕ) Cannot → Result Request Cannot =
-    λ rw rn rb. then rw (λ u. then rn (λ v. then rb (λ s. Ok (read u v s)))) in
-    let rw = number_in 3 5 (Word 2 want.Width) (decimal_of w) in
-    let rn = number_in 0 65535 (Word 3 want.BitCount) (decimal_of n) in
-    let rb = as_bytes (bytes_after [] 3 bs) in
-    ap (λ b. cond b (Err (TooFew form.Read)) (all rw rn rb)) few
-    ∙ ap (λ r. all r rn rb) (number_fits 3 5 (Word 2 want.Width) (decimal_of w) width w-is w-low w-high)
-    ∙ ap (λ r. all (Ok width) r rb) (number_fits 0 65535 (Word 3 want.BitCount) (decimal_of n) bits n-is (omega arith) n-high)
-    ∙ ap (λ r. all (Ok width) (Ok bits) r) (bytes_fit bs bytes [] 3 b-are)
+    rw (
+      enough 3 (codes "read" ∷ w ∷ n ∷ bs) (omega arith),
+      number_fits 3 5 (Word 2 want.Width) (decimal_of w) width w-is w-low w-high,
+      number_fits 0 65535 (Word 3 want.BitCount) (decimal_of n) bits n-is (omega arith) n-high,
+      bytes_fit bs bytes [] 3 b-are,
+    ) refl
 complete ws q (fields r ps register profile is are) = fields_complete r ps register profile is are
 complete ws q (benches u label is) = ap (λ x. then x (λ l. Ok (unit l bench))) (label_fits u label is)
 complete ws q (checks u label is) = ap (λ x. then x (λ l. Ok (unit l check))) (label_fits u label is)
@@ -76,10 +63,7 @@ kind_back : (w : List ℕ) (ws : List (List ℕ)) (q : Request) → kind_line (w
 kind_back w [] q h = never (TooFew form.Kind) q h
 kind_back w (k ∷ []) q h = kind_by (bytes_eq k (codes "crc8")) (bytes_eq k (codes "crc16")) k q refl refl h
 kind_back w (k ∷ x ∷ ws) q h =
-    let body = then (kind_named k) (λ kk. Ok (kind kk)) in
-    let one = (unless (ltb (length (w ∷ k ∷ x ∷ ws)) 2) (TooFew form.Kind) (cond (ltb 2 (length (w ∷ k ∷ x ∷ ws))) (Err (TooMany form.Kind)) body) q h).1 in
-    let two = (unless (ltb 2 (length (w ∷ k ∷ x ∷ ws))) (TooMany form.Kind) body q one).0 in
-    absurd (omega (arith, ltb-false 2 (length (w ∷ k ∷ x ∷ ws)) two))
+    absurd (three_words form.Kind w k x ws (then (kind_named k) (λ kk. Ok (kind kk))) q h)
 
 pack_back : (w : List ℕ) (ws : List (List ℕ)) (q : Request) → pack_line (w ∷ ws) ≡ Ok q → Asks (codes "pack" ∷ ws) q
 pack_back w [] q h = never (TooFew form.Pack) q h
@@ -95,8 +79,7 @@ pack_back w (a ∷ p ∷ n ∷ bs) q h =
     let f3 : List ℕ → ℕ → Bool → Result Request Cannot = λ u v t. then rb (f4 u v t) in
     let f2 : List ℕ → ℕ → Result Request Cannot = λ u v. then (then rn (λ m. Ok (eqb m 1))) (f3 u v) in
     let f1 : List ℕ → Result Request Cannot = λ u. then rp (f2 u) in
-    let whole = (unless (ltb (length (w ∷ a ∷ p ∷ n ∷ bs)) 4) (TooFew form.Pack) (then ra f1) q h).1 in
-    let s1 = then_ok ra f1 q whole in
+    let s1 = begun 4 form.Pack (w ∷ a ∷ p ∷ n ∷ bs) ra f1 q h in
     let u = s1.0 in
     let s2 = then_ok rp (f2 u) q s1.1.1 in
     let v = s2.0 in
@@ -121,36 +104,23 @@ read_back : (w : List ℕ) (ws : List (List ℕ)) (q : Request) → read_line (w
 read_back w [] q h = never (TooFew form.Read) q h
 read_back w (x ∷ []) q h = never (TooFew form.Read) q h
 read_back w (x ∷ n ∷ bs) q h =
-    let rw = number_in 3 5 (Word 2 want.Width) (decimal_of x) in
     let rn = number_in 0 65535 (Word 3 want.BitCount) (decimal_of n) in
-    let rb = as_bytes (bytes_after [] 3 bs) in
-    let f3 : ℕ → ℕ → List ℕ → Result Request Cannot = λ u v s. Ok (read u v s) in
-    let f2 : ℕ → ℕ → Result Request Cannot = λ u v. then rb (f3 u v) in
-    let f1 : ℕ → Result Request Cannot = λ u. then rn (f2 u) in
-    let whole = (unless (ltb (length (w ∷ x ∷ n ∷ bs)) 3) (TooFew form.Read) (then rw f1) q h).1 in
-    let s1 = then_ok rw f1 q whole in
+    let f2 : ℕ → ℕ → Result Request Cannot = λ u v. then (as_bytes (bytes_after [] 3 bs)) (λ s. Ok (read u v s)) in
+    let s1 = begun 3 form.Read (w ∷ x ∷ n ∷ bs) (number_in 3 5 (Word 2 want.Width) (decimal_of x)) (λ u. then rn (f2 u)) q h in
     let u = s1.0 in
     let s2 = then_ok rn (f2 u) q s1.1.1 in
     let v = s2.0 in
-    let s3 = then_ok rb (f3 u v) q s2.1.1 in
     let width = number_parts 3 5 (Word 2 want.Width) (decimal_of x) u s1.1.0 in
     let bits = number_parts 0 65535 (Word 3 want.BitCount) (decimal_of n) v s2.1.0 in
-    let bytes = bytes_parts bs [] s3.0 3 s3.1.0 in
-    let same : read u v bytes.0 ≡ q = ap (read u v) bytes.1.0 ∙ ok_same s3.1.1 in
-    subst (λ y. Asks (codes "read" ∷ x ∷ n ∷ bs) y) same
-    (reads x n bs u v bytes.0 width.0 width.1.0 width.1.1 bits.0 bits.1.1 bytes.1.1)
-
-line_by : (a b c : Bool) (w : List ℕ) (ws : List (List ℕ)) (q : Request)
-    → bytes_eq w (codes "kind") ≡ a → bytes_eq w (codes "pack") ≡ b → bytes_eq w (codes "read") ≡ c
-    → line_as (cond a (Some form.Kind) (cond b (Some form.Pack) (cond c (Some form.Read) (unit_form_named w)))) (w ∷ ws) ≡ Ok q → Asks (w ∷ ws) q
-line_by true b c w ws q ha hb hc h = subst (λ x. Asks (x ∷ ws) q) (sym (named w (codes "kind") ha)) (kind_back w ws q h)
-line_by false true c w ws q ha hb hc h = subst (λ x. Asks (x ∷ ws) q) (sym (named w (codes "pack") hb)) (pack_back w ws q h)
-line_by false false true w ws q ha hb hc h = subst (λ x. Asks (x ∷ ws) q) (sym (named w (codes "read") hc)) (read_back w ws q h)
-line_by false false false w ws q ha hb hc h = unit_line w ws q h
+    let b = bytes_last bs 3 (read u v) q s2.1.1 in
+    subst (Asks (codes "read" ∷ x ∷ n ∷ bs)) b.1.1 (reads x n bs u v b.0 width.0 width.1.0 width.1.1 bits.0 bits.1.1 b.1.0)
 
 sound : (ws : List (List ℕ)) (q : Request) → line_of ws ≡ Ok q → Asks ws q
-sound [] q h = never (Word 1 want.Form) q h
-sound (w ∷ ws) q h = line_by (bytes_eq w (codes "kind")) (bytes_eq w (codes "pack")) (bytes_eq w (codes "read")) w ws q refl refl refl h
+sound [] q = never (Word 1 want.Form) q
+sound (w ∷ ws) q =
+    choose (Some form.Kind) _ (codes "kind") w ws q (kind_back w ws q) (
+    choose (Some form.Pack) _ (codes "pack") w ws q (pack_back w ws q) (
+    choose (Some form.Read) _ (codes "read") w ws q (read_back w ws q) (unit_line w ws q)))
 
 -- ---- what is answered settles the line
 

@@ -1,14 +1,15 @@
 -- The steps that lead from words to a request, forward and back.
-use Rattle.std.proofs.Common.{◌≡◌, ℕ, ◌+◌, ◌≤◌, Bool, true, false, cond, leb, List, [], ◌∷◌, ◌++◌, reverse, length, Some, None, Ok, Err, Option, Result, sym, refl, ap, ◌∙◌, subst, append_assoc, append-nil, arith}
+use Rattle.std.proofs.Common.{◌≡◌, ℕ, ◌+◌, ◌≤◌, Bool, true, false, cond, ltb, List, [], ◌∷◌, ◌++◌, reverse, length, Some, None, Ok, Err, Option, Result, sym, refl, ap, ◌∙◌, subst, append_assoc, append-nil, arith, rules}
 use Rattle.std.specs.Str.{bytes_eq}
 use Rattle.std.proofs.lemmas.Slice.Eq.{bytes_eq-Decides}
-use Rattle.std.proofs.lemmas.Bool.{le-leb, leb-true}
+use Rattle.std.proofs.lemmas.Bool.{le-ltb, ltb-false}
 use Rattle.words.specs.Numbers.{within, byte_of}
 use Rattle.words.specs.Bytes.{bytes_after}
+use Rattle.requests.specs.declared.lines.Form.{Form}
 use Rattle.requests.specs.declared.lines.Cannot.{Cannot}
-use Rattle.requests.specs.declared.lines.Cannot.TheVariants.{Word}
+use Rattle.requests.specs.declared.lines.Cannot.TheVariants.{Word, TooFew, TooMany}
 use Rattle.requests.specs.declared.lines.Wanted.TheVariants as want
-use Rattle.requests.specs.Lines.{then, or_else, as_address, number_in, as_bytes}
+use Rattle.requests.specs.Lines.{Request, at_least, at_most, then, or_else, as_address, number_in, as_bytes}
 use Rattle.requests.specs.Grammar.{Write}
 
 -- ---- one step, forward and back
@@ -20,16 +21,10 @@ pub ok_same : {X : Type 0} {v w : X} → ◌≡◌ {A = Result X Cannot} (Ok v) 
 ok_same h = cc
 
 pub inside : (low high n : ℕ) → low ≤ n → n ≤ high → within low high n ≡ true
-inside low high n l h = ap (λ b. cond b (leb n high) false) (le-leb low n l) ∙ le-leb n high h
-
-pub both : (a b : Bool) → cond a b false ≡ true → (a ≡ true) × (b ≡ true)
-both true b h = (refl, h)
-both false b h = let z : ◌≡◌ {A = ℕ} 0 1 = cc in absurd (omega arith)
+inside low high n l h = search rules
 
 pub within_parts : (low high n : ℕ) → within low high n ≡ true → (low ≤ n) × (n ≤ high)
-within_parts low high n h =
-    let p = both (leb low n) (leb n high) h in
-    (leb-true low n p.0, leb-true n high p.1)
+within_parts low high n h = grind arith
 
 pub then_ok : {X Y : Type 0} (x : Result X Cannot) (f : X → Result Y Cannot) (y : Y) → then x f ≡ Ok y → (v : X) × ((x ≡ Ok v) × (f v ≡ Ok y))
 then_ok (Ok v) f y h = (v, (refl, h))
@@ -39,6 +34,20 @@ then_ok (Err e) f y h = never e y h
 pub unless : {Y : Type 0} (b : Bool) (e : Cannot) (x : Result Y Cannot) (y : Y) → cond b (Err e) x ≡ Ok y → (b ≡ false) × (x ≡ Ok y)
 unless true e x y h = never e y h
 unless false e x y h = (refl, h)
+
+-- the number of words
+pub enough : (k : ℕ) (ws : List (List ℕ)) → k ≤ length ws → ltb (length ws) k ≡ false
+enough k ws h = le-ltb (length ws) k h
+
+pub begun : {X Y : Type 0} (k : ℕ) (form : Form) (ws : List (List ℕ)) (x : Result X Cannot) (f : X → Result Y Cannot) (y : Y) → at_least k form ws (then x f) ≡ Ok y → (v : X) × ((x ≡ Ok v) × (f v ≡ Ok y))
+begun k form ws x f y h = then_ok x f y (unless (ltb (length ws) k) (TooFew form) (then x f) y h).1
+
+pub three_words : {Y : Type 0} (form : Form) (a b c : List ℕ) (ws : List (List ℕ)) (x : Result Y Cannot) (y : Y) → at_least 2 form (a ∷ b ∷ c ∷ ws) (at_most 2 form (a ∷ b ∷ c ∷ ws) x) ≡ Ok y → ⊥
+three_words form a b c ws x y h =
+    let n = length (a ∷ b ∷ c ∷ ws) in
+    let few = unless (ltb n 2) (TooFew form) (at_most 2 form (a ∷ b ∷ c ∷ ws) x) y h in
+    let many = unless (ltb 2 n) (TooMany form) x y few.1 in
+    omega (arith, ltb-false 2 n many.0)
 
 pub when : {Y : Type 0} (b : Bool) (e : Cannot) (v y : Y) → cond b (Ok v) (Err e) ≡ Ok y → (b ≡ true) × (v ≡ y)
 when true e v y h = (refl, cc)
@@ -94,6 +103,13 @@ bytes_by None w ws acc all at is more h = never (Word (at + 1) want.Byte) all h
 pub bytes_parts : (ws : List (List ℕ)) (acc all : List ℕ) (at : ℕ) → as_bytes (bytes_after acc at ws) ≡ Ok all → Parts ws acc all
 bytes_parts [] acc all at h = let same : acc ≡ all = cc in ([], (append-nil acc ∙ same, tt))
 bytes_parts (w ∷ ws) acc all at h = bytes_by (byte_of w) w ws acc all at refl (λ b. bytes_parts ws (acc ++ b ∷ []) all (at + 1)) h
+
+-- a line that ends with bytes
+pub bytes_last : (ws : List (List ℕ)) (at : ℕ) (g : List ℕ → Request) (q : Request) → then (as_bytes (bytes_after [] at ws)) (λ bs. Ok (g bs)) ≡ Ok q → (bs : List ℕ) × (Write ws bs × (g bs ≡ q))
+bytes_last ws at g q h =
+    let s = then_ok (as_bytes (bytes_after [] at ws)) (λ bs. Ok (g bs)) q h in
+    let p = bytes_parts ws [] s.0 at s.1.0 in
+    (p.0, (p.1.1, ap g p.1.0 ∙ ok_same s.1.1))
 
 pub named : (w t : List ℕ) → bytes_eq w t ≡ true → w ≡ t
 named w t h = (bytes_eq-Decides w t).0 h

@@ -69,10 +69,7 @@ pub(crate) fn command_line(heap: Global, words: &[&[u8]]) -> Result<Line, Stop>
 {
     at_least(words, 2, Form::Command)?;
     let label = label(word(words, 1))?;
-    let (room, from) = match room(word(words, 2))? {
-        Some(room) => (room, 3),
-        None => (USUAL_ROOM, 2),
-    };
+    let (room, from) = room(word(words, 2))?.map_or((USUAL_ROOM, 2), |room| (room, 3));
     let bytes = bytes(heap, words, from)?;
     Ok(Line::Unit {
         label,

@@ -2,7 +2,7 @@
 use Rattle.std.proofs.Common.{◌≡◌, ℕ, suc, ◌+◌, ◌/◌, ◌%◌, ◌^◌, ◌<◌, ◌≤◌, Bool, false, cond, eqb, List, [], ◌∷◌, ◌++◌, map, length, get_or, Some, None, Ok, Err, decimal, Option, Result, sym, refl, ap, ◌∙◌, append_assoc, arith, rules}
 use Rattle.std.proofs.lemmas.Bool.{ne_eqb}
 use Rattle.std.proofs.lemmas.List.{append-nil, length_push}
-use Rattle.std.proofs.lemmas.Fmt.{decimal_by_steps, decimal_step, decimal_digit}
+use Rattle.std.proofs.lemmas.Fmt.{decimal_by_steps}
 use Rattle.words.specs.Numbers.{byte_of, together_after, digit_shown, byte_shown, bytes_shown, digits_shown, one_more, decimal_after, decimal_of}
 use Rattle.words.specs.Split.{blank, ended, words_after}
 use Rattle.words.specs.Bytes.{bytes_after}
@@ -90,13 +90,3 @@ pub decimal_back : (n : ℕ) → n < 2 ^ 64 → decimal_of (decimal n) ≡ Some 
 decimal_back n h =
     let both : (decimal_after 0 (decimal n) ≡ Some n) × (0 < length (decimal n)) = decimal_by_steps Reads one_digit more_digits n h h in
     ap (λ b. cond b None (decimal_after 0 (decimal n))) (ne_eqb (length (decimal n)) 0 (λ e. omega (arith, both.1))) ∙ both.0
-
--- what a call leaves that wrote the front of a number, and then its last digit
-pub after_front : (xs ys zs : List ℕ) (n : ℕ) → 10 ≤ n → n < 2 ^ 64 → ys ≡ xs ++ decimal (n / 10) → zs ≡ ys ++ (48 + n % 10) ∷ [] → zs ≡ xs ++ decimal n
-after_front xs ys zs n l h front all =
-    all ∙ ap (λ v. v ++ (48 + n % 10) ∷ []) front ∙ append_assoc xs (decimal (n / 10)) ((48 + n % 10) ∷ []) ∙ ap (λ v. xs ++ v) (sym (decimal_step n l h))
-
-pub only_digit : (xs ys zs : List ℕ) (n : ℕ) → n < 10 → ys ≡ xs → zs ≡ ys ++ (48 + n % 10) ∷ [] → zs ≡ xs ++ decimal n
-only_digit xs ys zs n l front all =
-    let same : n % 10 ≡ n = omega arith in
-    all ∙ ap (λ v. v ++ (48 + n % 10) ∷ []) front ∙ ap (λ d. xs ++ (48 + d) ∷ []) same ∙ ap (λ v. xs ++ v) (sym (decimal_digit n l))

@@ -3,5 +3,4 @@ pub mod Octets
 pub mod Pairs
 pub mod Back
 pub mod Grammar
-pub mod Chain
 pub mod Shown

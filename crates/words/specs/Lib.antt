@@ -1,4 +1,3 @@
 pub mod Numbers
 pub mod Split
 pub mod Bytes
-pub mod Added

@@ -6,8 +6,5 @@ mod split;
 mod writing;
 
 pub use reading::{Unread, byte, bytes, decimal, reversed, together};
-pub use split::{count, is, word, words};
-pub use writing::{
-    Apart, Joined, Reversed, bytes_read_back, decimal_reads_back, hex, push_bytes, push_decimal,
-    push_digits, push_text,
-};
+pub use split::{word, words};
+pub use writing::{Apart, Joined, Reversed, bytes_read_back, decimal_reads_back};

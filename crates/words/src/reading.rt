@@ -8,6 +8,7 @@ ghost use Rattle.words.specs.Bytes.{bytes_from, ReadsBytes};
 
 use std::alloc::{AllocError, AllocFailed, Global};
 
+// char::to_digit gives a u32, to be cast back: no plainer.
 fn digit_value(c: u8) -> Option<u8>
     ensures value { result ≡ hex_digit c }
     ensures below { (d : ℕ) → result ≡ Some d → d < 16 }
@@ -88,7 +89,7 @@ fn one_more(n: u64, c: u8) -> Option<u64>
     }
 }
 
-// A decimal number below 2^64.
+// A decimal number below 2^64. The parse of std would take a sign too.
 pub fn decimal(word: &[u8]) -> Option<u64>
     ensures { result ≡ decimal_of word.now }
 {

@@ -1,11 +1,11 @@
 // A line, cut into words.
-ghost use Rattle.std.specs.Prelude.{◌≡◌, [], length, IfOk, ◌==◌, slice_index_or};
+ghost use Rattle.std.specs.Prelude.{◌≡◌, [], IfOk, ◌==◌, slice_index_or};
 ghost use Rattle.std.specs.List.{before_first};
-ghost use Rattle.std.specs.Str.{bytes_eq};
 ghost use Rattle.words.specs.Split.{blank, texts, words_of, Cut};
 
 use std::alloc::{AllocError, Global};
 
+// is_ascii_whitespace has the form feed too, which belongs to a word here.
 fn is_blank(c: u8) -> bool
     ensures { result ≡ blank c }
 {
@@ -31,23 +31,9 @@ pub fn words<'a>(heap: Global, line: &'a [u8]) -> Result<Vec<&'a [u8]>, AllocErr
         .collect(heap)
 }
 
-// How many words there are.
-pub fn count(given: &[&[u8]]) -> usize
-    ensures { result ≡ length (texts given.now) }
-{
-    given.len()
-}
-
 // The word at a place, counted from 0; past the last word an empty one.
 pub fn word<'a>(words: &[&'a [u8]], at: usize) -> &'a [u8]
     ensures { result.now ≡ slice_index_or (texts words.now) at [] }
 {
     words.get(at).copied().unwrap_or(b"")
-}
-
-// Whether the word is this text.
-pub fn is(word: &[u8], text: &str) -> bool
-    ensures { result ≡ bytes_eq word.now text.now }
-{
-    word == text.as_bytes()
 }
