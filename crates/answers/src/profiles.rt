@@ -1,6 +1,5 @@
 // A profile explained register by register, a line for each; each line begins with blanks.
-ghost use Rattle.std.specs.Prelude.{◌≡◌, Some};
-ghost use Rattle.registers.specs.Address.{registers};
+ghost use Rattle.std.specs.Prelude.{Some};
 ghost use Rattle.answers.specs.Profiles.{row_of, profile_rows};
 
 use registers::Register;
@@ -40,41 +39,10 @@ impl fmt::Display for ProfileRows<'_> {
     ghost output = { λ x. Some (profile_rows x.0.now) };
 
     fn fmt<W: fmt::Write>(&self, f: &mut fmt::Formatter<W>) -> fmt::Result {
-        for register in all() {
+        for register in Register::all() {
             let profile = self.0;
             write!(f, "{}", Row { profile, register })?;
         }
         Ok(())
     }
-}
-
-fn all() -> [Register; 24]
-    ensures { result ≡ registers }
-{
-    [
-        Register::Config,
-        Register::EnAa,
-        Register::EnRxaddr,
-        Register::SetupAw,
-        Register::SetupRetr,
-        Register::RfCh,
-        Register::RfSetup,
-        Register::Status,
-        Register::ObserveTx,
-        Register::Reserved,
-        Register::RxAddrP0,
-        Register::RxAddrP1,
-        Register::RxAddrP2,
-        Register::RxAddrP3,
-        Register::RxAddrP4,
-        Register::RxAddrP5,
-        Register::TxAddr,
-        Register::RxPwP0,
-        Register::RxPwP1,
-        Register::RxPwP2,
-        Register::RxPwP3,
-        Register::RxPwP4,
-        Register::RxPwP5,
-        Register::FifoStatus,
-    ]
 }

@@ -1,7 +1,7 @@
 // What a unit answers or lacks, in words.
 ghost use Rattle.std.specs.Prelude.{◌≡◌, take, Some};
 ghost use Rattle.desk.specs.Slots.{said_of};
-ghost use Rattle.answers.specs.Texts.{reason, register_digits, register_name, refusal_text, pin_text, said_text, lack_note, lack_text};
+ghost use Rattle.answers.specs.Texts.{refusal_text, pin_text, said_text, lack_note, lack_text};
 
 use commands::Refusal;
 use desk::{UnitAnswer, UnitResult};
@@ -16,27 +16,6 @@ pub fn front(bytes: &[u8], n: usize) -> &[u8]
     bytes.get(..n).unwrap_or(bytes)
 }
 
-// Why a call is refused; behind it may stand the name of a register.
-fn reason_of(refusal: Refusal) -> &'static str
-    ensures { result.now ≡ reason refusal }
-{
-    match refusal {
-        Refusal::NoCommand => "no command byte",
-        Refusal::Unknown => "no such command or register",
-        Refusal::NotForUnit => "not for a bench unit, or not for its role",
-        Refusal::DataLength => "a wrong number of data bytes",
-        Refusal::NothingReceived => "the RX queue is empty",
-        Refusal::ReplyRoom => "the reply buffer is too short",
-        Refusal::ReadOnly => "read only, or fixed by boxing",
-        Refusal::Busy => "not in Tuning, Waiting or RX",
-        Refusal::NotAllowed(_) => "the value is not allowed for ",
-        Refusal::QueueFull => "the TX queue is full",
-        Refusal::Profile => "the profile's map or length is wrong",
-        Refusal::Fault(_) => "the check finds a fault in ",
-        Refusal::FrameBytes => "bits beyond the frame's bytes",
-    }
-}
-
 // A refusal: its number, the register that it names, and the reason.
 #[derive(Clone, Copy)]
 pub struct Refused(pub Refusal);
@@ -47,15 +26,13 @@ impl fmt::Display for Refused {
     fn fmt<W: fmt::Write>(&self, f: &mut fmt::Formatter<W>) -> fmt::Result {
         let Refused(refusal) = *self;
         let number = refusal.number();
-        let reason = reason_of(refusal);
         match refusal.register() {
             Some(register) => write!(
                 f,
-                "refused {number}{} ({reason}{})",
-                Apart(&[register.address()]),
-                register.name()
+                "refused {number}{} ({refusal})",
+                Apart(&[register.address()])
             ),
-            None => write!(f, "refused {number} ({reason})"),
+            None => write!(f, "refused {number} ({refusal})"),
         }
     }
 }
