@@ -1,5 +1,6 @@
 -- A profile explained register by register.
 use Rattle.std.specs.Prelude.{ℕ, List, [], ◌∷◌, ◌++◌, length, drop, Some, None, Ok, Err, codes, Option, Result}
+use Rattle.std.specs.List.{flat_map}
 use Rattle.registers.specs.declared.register.Register.{Register}
 use Rattle.registers.specs.Address.{address_of, registers}
 use Rattle.registers.specs.Table.{name_of}
@@ -26,8 +27,7 @@ abbrev pub row_of : List ℕ → Register → List ℕ
 row_of p r = row_by r (if_sound p (field_of p (address_of r)))
 
 abbrev pub rows_of : List ℕ → List Register → List ℕ
-rows_of p [] = []
-rows_of p (r ∷ rs) = row_of p r ++ rows_of p rs
+rows_of p rs = flat_map (row_of p) rs
 
 -- by ascending address
 abbrev pub profile_rows : List ℕ → List ℕ

@@ -4,5 +4,5 @@
 mod profiles;
 mod texts;
 
-pub use profiles::explain_profile;
-pub use texts::{front, push_lack, push_refusal, push_unit_answer};
+pub use profiles::ProfileRows;
+pub use texts::{Lacking, Refused, Said, front};

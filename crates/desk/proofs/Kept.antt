@@ -11,12 +11,11 @@ use Rattle.bench.specs.Loading.{load_refusal, fields_written}
 use Rattle.registers.specs.Address.{registers}
 use Rattle.requests.specs.declared.lines.Lack.{Lack}
 use Rattle.requests.specs.Lines.{UnitRequest, bench, load, check, box, irq, command}
-use Rattle.desk.specs.declared.slot.Slot.{Slot}
-use Rattle.desk.specs.declared.slot.Slot.TheVariants.{Empty, Bench, Boxed}
+use Rattle.desk.specs.declared.slot.AnyUnit.TheVariants.{Bench, Boxed}
 use Rattle.desk.specs.declared.slot.Desk.{Desk}
 use Rattle.desk.specs.declared.slot.Units.{Units}
 use Rattle.desk.specs.declared.slot.Units.TheVariants.{Crc8, Crc16}
-use Rattle.desk.specs.Slots.{Said, done, pin, replied, refused, or_refused, result_said, slot_after, slot_said}
+use Rattle.desk.specs.Slots.{Slot, Said, done, pin, replied, refused, or_refused, result_said, slot_after, slot_said}
 use Rattle.desk.specs.Desks.{slot_at, desk_after, units_after, units_said, standing, Elsewhere, KeptUnlessDone}
 
 -- ---- one place
@@ -50,33 +49,33 @@ command_kept (Ok o) f room = first_kept (first_of (refusals f room o)) f (stored
 
 module _ {C : Type 0} where
   on_bench : Registers → Slot C
-  on_bench f = Bench (record { registers = f })
+  on_bench f = Some (Bench (record { registers = f }))
 
   slot_kept : (width : ℕ) (q : UnitRequest) (s : Slot C) → KeptUnlessDone (slot_said width q s) s (slot_after width q s)
   unfolding on_bench
   slot_kept width bench s = tt
-  slot_kept width (load p) Empty = refl
-  slot_kept width (load p) (Bench b) =
+  slot_kept width (load p) None = refl
+  slot_kept width (load p) (Some (Bench b)) =
       mapped on_bench (Ok (result_said (unless (load_refusal p) tt))) b.registers _ (load_kept (load_refusal p) b.registers (fields_written registers p b.registers))
-  slot_kept width (load p) (Boxed u) = refl
+  slot_kept width (load p) (Some (Boxed u)) = refl
   slot_kept width check s = unmoved (slot_said width check s) s
-  slot_kept width box Empty = refl
-  slot_kept width box (Bench b) = tt
-  slot_kept width box (Boxed u) = refl
+  slot_kept width box None = refl
+  slot_kept width box (Some (Bench b)) = tt
+  slot_kept width box (Some (Boxed u)) = refl
   slot_kept width irq s = unmoved (slot_said width irq s) s
-  slot_kept width (command room bytes) Empty = refl
-  slot_kept width (command room bytes) (Bench b) =
+  slot_kept width (command room bytes) None = refl
+  slot_kept width (command room bytes) (Some (Bench b)) =
       mapped on_bench (Ok (or_refused (refusal b.registers room (ordered bytes)) (replied (at_rest.status ∷ answer_of b.registers (ordered bytes))))) b.registers _
       (command_kept (ordered bytes) b.registers room)
-  slot_kept width (command room bytes) (Boxed u) = refl
+  slot_kept width (command room bytes) (Some (Boxed u)) = refl
 
   -- ---- eight places
 
-  at_place : (r : Result Said Lack) (xs : List (Slot C)) (u : ℕ) (s : Slot C) → KeptUnlessDone r (get_or xs u Empty) s → KeptUnlessDone r xs (set xs u s)
-  at_place (Err lack) xs u s h = ap (set xs u) h ∙ set-get_or xs u Empty
-  at_place (Ok (refused e)) xs u s h = ap (set xs u) h ∙ set-get_or xs u Empty
+  at_place : (r : Result Said Lack) (xs : List (Slot C)) (u : ℕ) (s : Slot C) → KeptUnlessDone r (get_or xs u None) s → KeptUnlessDone r xs (set xs u s)
+  at_place (Err lack) xs u s h = ap (set xs u) h ∙ set-get_or xs u None
+  at_place (Ok (refused e)) xs u s h = ap (set xs u) h ∙ set-get_or xs u None
   at_place (Ok done) xs u s h = tt
-  at_place (Ok (pin low)) xs u s h = ap (set xs u) h ∙ set-get_or xs u Empty
+  at_place (Ok (pin low)) xs u s h = ap (set xs u) h ∙ set-get_or xs u None
   at_place (Ok (replied bytes)) xs u s h = tt
 
   desk_with : List (Slot C) → Desk C
@@ -94,5 +93,5 @@ units_kept (Crc8 d) u q = mapped Crc8 (units_said (Crc8 d) u q) d _ (desk_kept 8
 units_kept (Crc16 d) u q = mapped Crc16 (units_said (Crc16 d) u q) d _ (desk_kept 16 d u q)
 
 pub elsewhere : (us : Units) (u : ℕ) (q : UnitRequest) → Elsewhere us u (units_after us u q)
-elsewhere (Crc8 d) u q = record { stands = λ i other. ap standing (get_or-set_other d.slots u i _ Empty other); check = refl }
-elsewhere (Crc16 d) u q = record { stands = λ i other. ap standing (get_or-set_other d.slots u i _ Empty other); check = refl }
+elsewhere (Crc8 d) u q = record { stands = λ i other. ap standing (get_or-set_other d.slots u i _ None other); check = refl }
+elsewhere (Crc16 d) u q = record { stands = λ i other. ap standing (get_or-set_other d.slots u i _ None other); check = refl }

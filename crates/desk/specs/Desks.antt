@@ -1,24 +1,23 @@
 -- The units under their labels.
-use Rattle.std.specs.Prelude.{◌≡◌, ℕ, replicate, Ok, Err, Result, ◌≢◌, slice_index_or, slice_set}
+use Rattle.std.specs.Prelude.{◌≡◌, ℕ, replicate, Some, None, Ok, Err, Result, ◌≢◌, slice_index_or, slice_set}
 use Rattle.registers.specs.declared.held.Registers.{Registers}
 use Rattle.unit.specs.declared.state.State.{State}
 use Rattle.requests.specs.declared.lines.Kind.{Kind}
 use Rattle.requests.specs.declared.lines.Kind.TheVariants as kind
 use Rattle.requests.specs.declared.lines.Lack.{Lack}
 use Rattle.requests.specs.Lines.{UnitRequest}
-use Rattle.desk.specs.declared.slot.Slot.{Slot}
-use Rattle.desk.specs.declared.slot.Slot.TheVariants.{Empty, Bench, Boxed}
+use Rattle.desk.specs.declared.slot.AnyUnit.TheVariants.{Bench, Boxed}
 use Rattle.desk.specs.declared.slot.Desk.{Desk}
 use Rattle.desk.specs.declared.slot.Units.{Units}
 use Rattle.desk.specs.declared.slot.Units.TheVariants.{Crc8, Crc16}
-use Rattle.desk.specs.Slots.{Said, done, pin, replied, refused, slot_after, slot_said}
+use Rattle.desk.specs.Slots.{Slot, Said, done, pin, replied, refused, slot_after, slot_said}
 
 module _ {C : Type 0} where
   abbrev pub slot_at : Desk C → ℕ → Slot C
-  slot_at d u = slice_index_or d.slots u Empty
+  slot_at d u = slice_index_or d.slots u None
 
   abbrev pub no_desk : Desk C
-  no_desk = record { slots = replicate 8 Empty }
+  no_desk = record { slots = replicate 8 None }
 
   -- only the place under the label changes
   abbrev pub desk_after : ℕ → Desk C → ℕ → UnitRequest → Desk C
@@ -53,9 +52,9 @@ pub data Standing : Type 0 where
   in_a_box : State → Standing
 
 abbrev pub standing : {C : Type 0} → Slot C → Standing
-standing Empty = nothing
-standing (Bench b) = on_bench b.registers
-standing (Boxed u) = in_a_box u.state
+standing None = nothing
+standing (Some (Bench b)) = on_bench b.registers
+standing (Some (Boxed u)) = in_a_box u.state
 
 abbrev pub under : Units → ℕ → Standing
 under (Crc8 d) u = standing (slot_at d u)

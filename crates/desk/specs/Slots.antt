@@ -16,8 +16,8 @@ use Rattle.requests.specs.declared.lines.Lack.TheVariants.{NoUnit, IsBoxed, OnBe
 use Rattle.requests.specs.Lines.{UnitRequest, bench, load, check, box, irq, command}
 use Rattle.desk.specs.declared.answer.UnitAnswer.{UnitAnswer}
 use Rattle.desk.specs.declared.answer.UnitAnswer.TheVariants as answer
-use Rattle.desk.specs.declared.slot.Slot.{Slot}
-use Rattle.desk.specs.declared.slot.Slot.TheVariants.{Empty, Bench, Boxed}
+use Rattle.desk.specs.declared.slot.AnyUnit.{AnyUnit}
+use Rattle.desk.specs.declared.slot.AnyUnit.TheVariants.{Bench, Boxed}
 
 -- ---- what a unit answers
 
@@ -28,15 +28,15 @@ pub data Said : Type 0 where
   replied : List ℕ → Said
   refused : Refusal → Said
 
-abbrev pub said_of : UnitAnswer → Said
-said_of answer.Done = done
-said_of (answer.Pin low) = pin low
-said_of (answer.Reply n buffer) = replied (take n buffer)
-said_of (answer.Refused e) = refused e
+abbrev pub said_of : Result UnitAnswer Refusal → Said
+said_of (Ok answer.Done) = done
+said_of (Ok (answer.Pin low)) = pin low
+said_of (Ok (answer.Reply n buffer)) = replied (take n buffer)
+said_of (Err e) = refused e
 
 -- r is what x says
-abbrev pub Says : Result UnitAnswer Lack → Result Said Lack → Type 0
-Says (Ok a) x = x ≡ Ok (said_of a)
+abbrev pub Says : Result (Result UnitAnswer Refusal) Lack → Result Said Lack → Type 0
+Says (Ok r) x = x ≡ Ok (said_of r)
 Says (Err l) x = x ≡ Err l
 
 abbrev pub or_refused : Option Refusal → Said → Said
@@ -53,49 +53,53 @@ reply_said f room bytes = or_refused (refusal f room (ordered bytes)) (replied (
 
 -- ---- line by line: the place afterwards, and the answer
 
+-- a place is empty, or a unit stands there
+abbrev pub Slot : Type 0 → Type 0
+Slot C = Option (AnyUnit C)
+
 module _ {C : Type 0} where
   abbrev pub benched : Slot C
-  benched = Bench (record { registers = at_reset })
+  benched = Some (Bench (record { registers = at_reset }))
 
   abbrev pub loaded : List ℕ → Slot C → Slot C
-  loaded p Empty = Empty
-  loaded p (Bench b) = Bench (record { registers = load_after p b.registers })
-  loaded p (Boxed u) = Boxed u
+  loaded p None = None
+  loaded p (Some (Bench b)) = Some (Bench (record { registers = load_after p b.registers }))
+  loaded p (Some (Boxed u)) = Some (Boxed u)
 
   abbrev pub load_said : List ℕ → Slot C → Result Said Lack
-  load_said p Empty = Err NoUnit
-  load_said p (Bench b) = Ok (result_said (unless (load_refusal p) tt))
-  load_said p (Boxed u) = Err IsBoxed
+  load_said p None = Err NoUnit
+  load_said p (Some (Bench b)) = Ok (result_said (unless (load_refusal p) tt))
+  load_said p (Some (Boxed u)) = Err IsBoxed
 
   abbrev pub check_said : ℕ → Slot C → Result Said Lack
-  check_said width Empty = Err NoUnit
-  check_said width (Bench b) = Ok (result_said (check_answer (fault_of width b.registers)))
-  check_said width (Boxed u) = Err IsBoxed
+  check_said width None = Err NoUnit
+  check_said width (Some (Bench b)) = Ok (result_said (check_answer (fault_of width b.registers)))
+  check_said width (Some (Boxed u)) = Err IsBoxed
 
   abbrev pub in_box : ℕ → Slot C → Slot C
-  in_box width Empty = Empty
-  in_box width (Bench b) = Boxed (record { state = boxed width b.registers; kind = record {} })
-  in_box width (Boxed u) = Boxed u
+  in_box width None = None
+  in_box width (Some (Bench b)) = Some (Boxed (record { state = boxed width b.registers; kind = record {} }))
+  in_box width (Some (Boxed u)) = Some (Boxed u)
 
   abbrev pub box_said : Slot C → Result Said Lack
-  box_said Empty = Err NoUnit
-  box_said (Bench b) = Ok done
-  box_said (Boxed u) = Err IsBoxed
+  box_said None = Err NoUnit
+  box_said (Some (Bench b)) = Ok done
+  box_said (Some (Boxed u)) = Err IsBoxed
 
   abbrev pub irq_said : Slot C → Result Said Lack
-  irq_said Empty = Err NoUnit
-  irq_said (Bench b) = Err OnBench
-  irq_said (Boxed u) = Ok (pin (irq_of u.state.core.flags u.state.core.config))
+  irq_said None = Err NoUnit
+  irq_said (Some (Bench b)) = Err OnBench
+  irq_said (Some (Boxed u)) = Ok (pin (irq_of u.state.core.flags u.state.core.config))
 
   abbrev pub commanded : ℕ → List ℕ → Slot C → Slot C
-  commanded room bytes Empty = Empty
-  commanded room bytes (Bench b) = Bench (record { registers = registers_after b.registers room (ordered bytes) })
-  commanded room bytes (Boxed u) = Boxed u
+  commanded room bytes None = None
+  commanded room bytes (Some (Bench b)) = Some (Bench (record { registers = registers_after b.registers room (ordered bytes) }))
+  commanded room bytes (Some (Boxed u)) = Some (Boxed u)
 
   abbrev pub command_said : ℕ → List ℕ → Slot C → Result Said Lack
-  command_said room bytes Empty = Err NoUnit
-  command_said room bytes (Bench b) = Ok (reply_said b.registers room bytes)
-  command_said room bytes (Boxed u) = Err NoModes
+  command_said room bytes None = Err NoUnit
+  command_said room bytes (Some (Bench b)) = Ok (reply_said b.registers room bytes)
+  command_said room bytes (Some (Boxed u)) = Err NoModes
 
   -- for a check of that width
   abbrev pub slot_after : ℕ → UnitRequest → Slot C → Slot C

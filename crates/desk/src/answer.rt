@@ -1,12 +1,15 @@
 use commands::Refusal;
 
 // What a unit answers.
-#[derive(Clone, Copy)]
+// `Reply` is a length beside a buffer, and no Vec: a call on a unit cannot fail, and a Vec would make it fail for want of memory.
+#[derive(Clone, Copy, Debug, PartialEq, Eq)]
 pub enum UnitAnswer {
     Done,
     // the level of its IRQ pin
     Pin { is_low: bool },
     // a reply of so many bytes, at the front of a buffer
     Reply { length: usize, buffer: [u8; 255] },
-    Refused(Refusal),
 }
+
+// What a call on a unit gives: an answer, or the unit's refusal.
+pub type UnitResult = Result<UnitAnswer, Refusal>;

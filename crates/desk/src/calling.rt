@@ -1,125 +1,93 @@
-// What a line does to the unit in a place.
-ghost use Rattle.std.specs.Prelude.{◌≡◌};
+// What a line does to a unit.
+ghost use Rattle.std.specs.Prelude.{◌≡◌, Some};
 ghost use Rattle.commands.specs.Decode.{ordered};
 ghost use Rattle.bench.specs.Commands.{registers_after};
-ghost use Rattle.requests.specs.Lines.{asked_of};
-ghost use Rattle.desk.specs.Slots.{said_of, Says, result_said, reply_said, loaded, load_said, check_said, in_box, box_said, irq_said, commanded, command_said, slot_after, slot_said};
+ghost use Rattle.desk.specs.Slots.{said_of, Says, result_said, reply_said, loaded, load_said, check_said, in_box, box_said, irq_said, commanded, command_said};
 
-use crate::answer::UnitAnswer;
-use crate::slot::Slot;
+use crate::answer::{UnitAnswer, UnitResult};
+use crate::slot::AnyUnit;
 use bench::Bench;
 use checks::Check;
 use commands::Refusal;
-use requests::{Lack, UnitLine};
+use requests::Lack;
 use std::mem::replace;
 use unit::Boxed;
 
 // A host command on a bench unit, with so many bytes for the reply.
-fn command_bench(unit: &mut Bench, room: u8, bytes: &[u8]) -> UnitAnswer
+fn command_bench(unit: &mut Bench, room: u8, bytes: &[u8]) -> UnitResult
     ensures after { unit.new.registers ≡ registers_after unit.old.registers room (ordered bytes.now) }
     ensures answer { said_of result ≡ reply_said unit.old.registers room bytes.now }
 {
     let mut buffer = [0; 255];
-    match unit.command(bytes, &mut buffer[0..room as usize]) {
-        Ok(length) => UnitAnswer::Reply { length, buffer },
-        Err(refusal) => UnitAnswer::Refused(refusal),
-    }
+    let length = unit.command(bytes, &mut buffer[0..room as usize])?;
+    Ok(UnitAnswer::Reply { length, buffer })
 }
 
-fn answered(res: Result<(), Refusal>) -> UnitAnswer
-    ensures { said_of result ≡ result_said res }
+// What a unit gives where it only carries out or refuses.
+fn done(carried: Result<(), Refusal>) -> UnitResult
+    ensures { said_of result ≡ result_said carried }
 {
-    match res {
-        Ok(()) => UnitAnswer::Done,
-        Err(refusal) => UnitAnswer::Refused(refusal),
-    }
+    carried.map(|()| UnitAnswer::Done)
 }
 
-impl<C: Check> Slot<C> {
-    fn load(&mut self, profile: &[u8]) -> Result<UnitAnswer, Lack>
-        ensures after { self.new ≡ loaded profile.now self.old }
-        ensures answer { Says result (load_said profile.now self.old) }
+impl<C: Check> AnyUnit<C> {
+    // Loading uses the bench unit up and gives it back, so a new one stands in its place meanwhile.
+    pub(crate) fn load(&mut self, profile: &[u8]) -> Result<UnitResult, Lack>
+        ensures after { Some self.new ≡ loaded profile.now (Some self.old) }
+        ensures answer { Says result (load_said profile.now (Some self.old)) }
     {
-        match replace(self, Slot::Empty) {
-            Slot::Empty => Err(Lack::NoUnit),
-            Slot::Bench(unit) => {
-                let (unit, answer) = unit.load(profile);
-                *self = Slot::Bench(unit);
-                Ok(answered(answer))
+        match self {
+            AnyUnit::Bench(unit) => {
+                let (loaded, result) = replace(unit, Bench::new()).load(profile);
+                *unit = loaded;
+                Ok(done(result))
             }
-            Slot::Boxed(unit) => {
-                *self = Slot::Boxed(unit);
-                Err(Lack::IsBoxed)
-            }
+            AnyUnit::Boxed(_) => Err(Lack::IsBoxed),
         }
     }
 
-    fn check(&self) -> Result<UnitAnswer, Lack>
-        ensures { Says result (check_said C.Check.width self.now) }
+    pub(crate) fn check(&self) -> Result<UnitResult, Lack>
+        ensures { Says result (check_said C.Check.width (Some self.now)) }
     {
         match self {
-            Slot::Empty => Err(Lack::NoUnit),
-            Slot::Bench(unit) => Ok(answered(unit.check::<C>())),
-            Slot::Boxed(_) => Err(Lack::IsBoxed),
+            AnyUnit::Bench(unit) => Ok(done(unit.check::<C>())),
+            AnyUnit::Boxed(_) => Err(Lack::IsBoxed),
         }
     }
 
     // Closes the box for good.
-    fn close(&mut self) -> Result<UnitAnswer, Lack>
-        ensures after { self.new ≡ in_box C.Check.width self.old }
-        ensures answer { Says result (box_said self.old) }
+    pub(crate) fn close(&mut self) -> Result<UnitResult, Lack>
+        ensures after { Some self.new ≡ in_box C.Check.width (Some self.old) }
+        ensures answer { Says result (box_said (Some self.old)) }
     {
-        match replace(self, Slot::Empty) {
-            Slot::Empty => Err(Lack::NoUnit),
-            Slot::Bench(unit) => {
-                *self = Slot::Boxed(Boxed::new(unit));
-                Ok(UnitAnswer::Done)
+        match self {
+            AnyUnit::Bench(unit) => {
+                let unit = replace(unit, Bench::new());
+                *self = AnyUnit::Boxed(Boxed::new(unit));
+                Ok(Ok(UnitAnswer::Done))
             }
-            Slot::Boxed(unit) => {
-                *self = Slot::Boxed(unit);
-                Err(Lack::IsBoxed)
-            }
+            AnyUnit::Boxed(_) => Err(Lack::IsBoxed),
         }
     }
 
-    fn irq(&self) -> Result<UnitAnswer, Lack>
-        ensures { Says result (irq_said self.now) }
+    pub(crate) fn irq(&self) -> Result<UnitResult, Lack>
+        ensures { Says result (irq_said (Some self.now)) }
     {
         match self {
-            Slot::Empty => Err(Lack::NoUnit),
-            Slot::Bench(_) => Err(Lack::OnBench),
-            Slot::Boxed(unit) => Ok(UnitAnswer::Pin {
+            AnyUnit::Bench(_) => Err(Lack::OnBench),
+            AnyUnit::Boxed(unit) => Ok(Ok(UnitAnswer::Pin {
                 is_low: unit.irq_is_low(),
-            }),
+            })),
         }
     }
 
-    fn command(&mut self, room: u8, bytes: &[u8]) -> Result<UnitAnswer, Lack>
-        ensures after { self.new ≡ commanded room bytes.now self.old }
-        ensures answer { Says result (command_said room bytes.now self.old) }
+    pub(crate) fn command(&mut self, room: u8, bytes: &[u8]) -> Result<UnitResult, Lack>
+        ensures after { Some self.new ≡ commanded room bytes.now (Some self.old) }
+        ensures answer { Says result (command_said room bytes.now (Some self.old)) }
     {
         match self {
-            Slot::Empty => Err(Lack::NoUnit),
-            Slot::Bench(unit) => Ok(command_bench(unit, room, bytes)),
-            Slot::Boxed(_) => Err(Lack::NoModes),
-        }
-    }
-
-    // Does what the line asks.
-    pub(crate) fn call(&mut self, line: &UnitLine) -> Result<UnitAnswer, Lack>
-        ensures after { self.new ≡ slot_after C.Check.width (asked_of line.now) self.old }
-        ensures answer { Says result (slot_said C.Check.width (asked_of line.now) self.old) }
-    {
-        match line {
-            UnitLine::Bench => {
-                *self = Slot::Bench(Bench::new());
-                Ok(UnitAnswer::Done)
-            }
-            UnitLine::Load { profile } => self.load(profile),
-            UnitLine::Check => self.check(),
-            UnitLine::Box => self.close(),
-            UnitLine::Irq => self.irq(),
-            UnitLine::Command { room, bytes } => self.command(*room, bytes),
+            AnyUnit::Bench(unit) => Ok(command_bench(unit, room, bytes)),
+            AnyUnit::Boxed(_) => Err(Lack::NoModes),
         }
     }
 }

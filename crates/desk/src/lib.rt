@@ -6,5 +6,5 @@ mod calling;
 mod slot;
 mod units;
 
-pub use answer::UnitAnswer;
-pub use slot::{Desk, Slot, Units};
+pub use answer::{UnitAnswer, UnitResult};
+pub use slot::{AnyUnit, Desk, Units};

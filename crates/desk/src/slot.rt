@@ -2,21 +2,20 @@ use bench::Bench;
 use checks::{Crc8, Crc16};
 use unit::Boxed;
 
-// The place of a unit.
+// A unit: on the bench, or boxed for good.
 #[derive(Drop)]
-pub enum Slot<C> {
-    Empty,
+pub enum AnyUnit<C> {
     Bench(Bench),
     Boxed(Boxed<C>),
 }
 
-// Eight places, by their labels.
+// Eight places for a unit, by their labels.
 #[derive(Drop)]
 pub struct Desk<C> {
-    pub slots: [Slot<C>; 8],
+    pub slots: [Option<AnyUnit<C>>; 8],
 }
 
-// The units, for the check in force.
+// The units, for the check in force. A script names the check while it runs, so the type of the check is chosen by a match.
 #[derive(Drop)]
 pub enum Units {
     Crc8(Desk<Crc8>),

@@ -1,37 +1,49 @@
 // The desk: eight places, for the check in force.
 ghost use Rattle.std.specs.Prelude.{◌≡◌};
 ghost use Rattle.requests.specs.Lines.{asked_of};
-ghost use Rattle.desk.specs.Slots.{Says};
+ghost use Rattle.desk.specs.Slots.{Says, slot_after, slot_said};
 ghost use Rattle.desk.specs.Desks.{no_desk, desk_after, desk_said, kind_of, no_units, units_after, units_said, Elsewhere, KeptUnlessDone};
 
-use crate::answer::UnitAnswer;
-use crate::slot::{Desk, Slot, Units};
+use crate::answer::{UnitAnswer, UnitResult};
+use crate::slot::{AnyUnit, Desk, Units};
+use bench::Bench;
 use checks::Check;
 use requests::{Kind, Label, Lack, UnitLine};
+use std::array;
+
+// Does what a line asks of the unit in a place.
+fn call<C: Check>(slot: &mut Option<AnyUnit<C>>, line: &UnitLine) -> Result<UnitResult, Lack>
+    ensures after { slot.new ≡ slot_after C.Check.width (asked_of line.now) slot.old }
+    ensures answer { Says result (slot_said C.Check.width (asked_of line.now) slot.old) }
+{
+    let unit = slot.as_mut().ok_or(Lack::NoUnit);
+    match line {
+        UnitLine::Bench => {
+            *slot = Some(AnyUnit::Bench(Bench::new()));
+            Ok(Ok(UnitAnswer::Done))
+        }
+        UnitLine::Load { profile } => unit?.load(profile),
+        UnitLine::Check => unit?.check(),
+        UnitLine::Box => unit?.close(),
+        UnitLine::Irq => unit?.irq(),
+        UnitLine::Command { room, bytes } => unit?.command(*room, bytes),
+    }
+}
 
 impl<C: Check> Desk<C> {
     fn new() -> Desk<C>
         ensures { result ≡ no_desk }
     {
         Desk {
-            slots: [
-                Slot::Empty,
-                Slot::Empty,
-                Slot::Empty,
-                Slot::Empty,
-                Slot::Empty,
-                Slot::Empty,
-                Slot::Empty,
-                Slot::Empty,
-            ],
+            slots: array::from_fn(|_| None),
         }
     }
 
-    fn call(&mut self, label: Label, line: &UnitLine) -> Result<UnitAnswer, Lack>
+    fn call(&mut self, label: Label, line: &UnitLine) -> Result<UnitResult, Lack>
         ensures after { self.new ≡ desk_after C.Check.width self.old label.place (asked_of line.now) }
         ensures answer { Says result (desk_said C.Check.width self.old label.place (asked_of line.now)) }
     {
-        self.slots[label.place as usize].call(line)
+        call(&mut self.slots[label.place as usize], line)
     }
 }
 
@@ -57,7 +69,7 @@ impl Units {
     }
 
     // Does what a line asks of the unit under a label, or says what the unit lacks.
-    pub fn call(&mut self, label: Label, line: &UnitLine) -> Result<UnitAnswer, Lack>
+    pub fn call(&mut self, label: Label, line: &UnitLine) -> Result<UnitResult, Lack>
         ensures after { self.new ≡ units_after self.old label.place (asked_of line.now) }
         ensures answer { Says result (units_said self.old label.place (asked_of line.now)) }
         ensures elsewhere { Elsewhere self.old label.place self.new }
@@ -66,7 +78,7 @@ impl Units {
         self.pass_on(label, line)
     }
 
-    fn pass_on(&mut self, label: Label, line: &UnitLine) -> Result<UnitAnswer, Lack>
+    fn pass_on(&mut self, label: Label, line: &UnitLine) -> Result<UnitResult, Lack>
         ensures after { self.new ≡ units_after self.old label.place (asked_of line.now) }
         ensures answer { Says result (units_said self.old label.place (asked_of line.now)) }
     {

@@ -1,5 +1,5 @@
 -- What carrying out a line gives.
-use Rattle.std.specs.Prelude.{◌≡◌, ℕ, ◌*◌, Bool, cond, List, length, take, replicate, Some, None, Ok, Err, vec_items, Option, Result, nat_le}
+use Rattle.std.specs.Prelude.{◌≡◌, ℕ, ◌*◌, Bool, cond, List, length, take, replicate, Some, None, Ok, Err, Option, Result, nat_le}
 use Rattle.checks.specs.Bits.{bits}
 use Rattle.checks.specs.Crc.{crc8, crc16}
 use Rattle.frames.specs.Packet.{Packet, frame_bits, buffer_after, reading}
@@ -46,12 +46,13 @@ pub data Outcome : Type 0 where
 abbrev pub outcome_of : Answer → Outcome
 outcome_of answer.Done = done
 outcome_of (answer.Frame n buffer) = frame n buffer
-outcome_of (answer.Heard h) = heard (packet_of h.fields)
-outcome_of answer.Nothing = nothing
-outcome_of (answer.Refused e) = refused (refusal_number e)
-outcome_of (answer.Field bytes) = looked_up (vec_items bytes)
-outcome_of answer.Absent = absent
-outcome_of (answer.Unit a) = said (said_of a)
+outcome_of (answer.Read (Ok (Some h))) = heard (packet_of h.fields)
+outcome_of (answer.Read (Ok None)) = nothing
+outcome_of (answer.Read (Err e)) = refused (refusal_number e)
+outcome_of (answer.Field (Ok (Some bytes))) = looked_up bytes.now
+outcome_of (answer.Field (Ok None)) = absent
+outcome_of (answer.Field (Err e)) = said (unit_refused e)
+outcome_of (answer.Unit r) = said (said_of r)
 
 -- the frame in a buffer of zeros, the longest frame long
 abbrev pub pack_outcome : Kind → Packet → Outcome

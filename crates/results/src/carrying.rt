@@ -1,31 +1,30 @@
 // Lines carried out.
-ghost use Rattle.std.specs.Prelude.{◌≡◌, IfOk};
+ghost use Rattle.std.specs.Prelude.{◌≡◌};
 ghost use Rattle.frames.specs.Calls.{width_of, packet_of, Packed, Reads};
-ghost use Rattle.requests.specs.Lines.{asked, Gives};
+ghost use Rattle.requests.specs.Lines.{asked, Means};
 ghost use Rattle.results.specs.Outcomes.{check_width, check_meaning, outcome_of, pack_outcome, read_outcome, field_outcome, carried, units_after_request, Kept};
 
 use checks::{Crc8, Crc16};
-use desk::{UnitAnswer, Units};
-use frames::{AddressWidth, Fields, Heard, Refusal, pack, read};
-use requests::{Cannot, Kind, Line, Stop};
-use std::alloc::{AllocError, Global};
+use desk::{UnitResult, Units};
+use frames::{AddressWidth, Fields, Heard, pack, read};
+use requests::{Cannot, Kind, Line};
 
-// What carrying out a line gives.
+// What carrying out a line gives. What a profile has for a register is a part of the line.
 #[derive(Drop)]
-pub enum Answer {
+pub enum Answer<'a> {
     Done,
-    // a frame of so many bits, at the front of a buffer
+    // A frame of so many bits, at the front of a buffer. Its bytes would not tell how many bits it has, so a Vec would stand beside
+    // the bit count too, and would make packing fail for want of memory.
     Frame { bits: usize, buffer: [u8; 42] },
-    Heard(Heard),
-    Nothing,
-    Refused(Refusal),
-    // what a profile has for a register
-    Field(Vec<u8>),
-    Absent,
-    Unit(UnitAnswer),
+    // what a reader finds, if it finds a packet
+    Read(Result<Option<Heard>, frames::Refusal>),
+    // what a profile has for a register, if it has anything
+    Field(Result<Option<&'a [u8]>, commands::Refusal>),
+    Unit(UnitResult),
 }
 
-fn pack_as(kind: Kind, fields: &Fields, frame: &mut [u8]) -> Result<usize, Refusal>
+// This and the next are alike: a script names the check while it runs, so a match chooses the type of the check, and no closure can take a type.
+fn pack_as(kind: Kind, fields: &Fields, frame: &mut [u8]) -> Result<usize, frames::Refusal>
     ensures { Packed (check_width kind) (check_meaning kind) (packet_of fields.now) frame.old result frame.new }
 {
     match kind {
@@ -39,7 +38,7 @@ pub(crate) fn read_as(
     frame: &[u8],
     count: usize,
     width: AddressWidth,
-) -> Result<Option<Heard>, Refusal>
+) -> Result<Option<Heard>, frames::Refusal>
     ensures { Reads (check_width kind) (check_meaning kind) (width_of width) frame.now count result }
 {
     match kind {
@@ -48,70 +47,48 @@ pub(crate) fn read_as(
     }
 }
 
-fn packed(kind: Kind, fields: &Fields) -> Answer
+// The buffer has room for the longest frame, so packing is not refused.
+fn packed<'a>(kind: Kind, fields: &Fields) -> Answer<'a>
     ensures { outcome_of result ≡ pack_outcome kind (packet_of fields.now) }
 {
     let mut buffer = [0; 42];
-    match pack_as(kind, fields, &mut buffer) {
-        Ok(bits) => Answer::Frame { bits, buffer },
-        Err(refusal) => Answer::Refused(refusal),
-    }
+    let bits = pack_as(kind, fields, &mut buffer).unwrap();
+    Answer::Frame { bits, buffer }
 }
 
-fn heard(kind: Kind, frame: &[u8], count: usize, width: AddressWidth) -> Answer
-    ensures { outcome_of result ≡ read_outcome kind (width_of width) count frame.now }
-{
-    match read_as(kind, frame, count, width) {
-        Ok(heard) => match heard {
-            Some(heard) => Answer::Heard(heard),
-            None => Answer::Nothing,
-        },
-        Err(refusal) => Answer::Refused(refusal),
-    }
-}
-
-fn field(heap: Global, register: u8, profile: &[u8]) -> Result<Answer, AllocError>
-    ensures { IfOk result (λ a. outcome_of a ≡ field_outcome register profile.now) }
-{
-    match profile::field(profile, register) {
-        Ok(Some(bytes)) => Ok(Answer::Field(bytes.to_vec(heap)?)),
-        Ok(None) => Ok(Answer::Absent),
-        Err(refusal) => Ok(Answer::Unit(UnitAnswer::Refused(refusal))),
-    }
-}
-
-fn done_with(heap: Global, units: &mut Units, line: &Line) -> Result<Answer, Stop>
-    ensures answer { Gives outcome_of result (carried units.old (asked line.now)) }
+fn done_with<'a>(units: &mut Units, line: &'a Line) -> Result<Answer<'a>, Cannot>
+    ensures answer { Means outcome_of result (carried units.old (asked line.now)) }
     ensures units { units.new ≡ units_after_request units.old (asked line.now) }
 {
     match line {
-        Line::Kind(named) => {
-            *units = Units::new(*named);
+        Line::Kind(kind) => {
+            *units = Units::new(*kind);
             Ok(Answer::Done)
         }
         Line::Pack(fields) => Ok(packed(units.kind(), fields)),
         Line::Read { width, bits, bytes } => {
-            Ok(heard(units.kind(), bytes, usize::from(*bits), *width))
+            let (kind, count) = (units.kind(), usize::from(*bits));
+            Ok(Answer::Read(read_as(kind, bytes, count, *width)))
         }
         Line::Field { register, profile } => {
-            let answer = field(heap, *register, profile)?;
-            Ok(answer)
+            Ok(Answer::Field(profile::field(profile, *register)))
         }
-        Line::Unit { label, line } => match units.call(*label, line) {
-            Ok(answer) => Ok(Answer::Unit(answer)),
-            Err(lack) => Err(Stop::Cannot(Cannot::Unit {
+        Line::Unit { label, line } => {
+            let label = *label;
+            let result = units.call(label, line).map_err(|lack| Cannot::Unit {
                 label: label.place,
                 lack,
-            })),
-        },
+            });
+            Ok(Answer::Unit(result?))
+        }
     }
 }
 
 // Carries out a line on the units, with the check in force; or says why it cannot be carried out.
-pub fn carry_out(heap: Global, units: &mut Units, line: &Line) -> Result<Answer, Stop>
-    ensures answer { Gives outcome_of result (carried units.old (asked line.now)) }
+pub fn carry_out<'a>(units: &mut Units, line: &'a Line) -> Result<Answer<'a>, Cannot>
+    ensures answer { Means outcome_of result (carried units.old (asked line.now)) }
     ensures units { units.new ≡ units_after_request units.old (asked line.now) }
     ensures kept { Kept (carried units.old (asked line.now)) units.old units.new }
 {
-    done_with(heap, units, line)
+    done_with(units, line)
 }

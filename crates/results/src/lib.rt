@@ -6,5 +6,5 @@ mod rows;
 mod texts;
 
 pub use carrying::{Answer, carry_out};
-pub use rows::explain;
-pub use texts::{push_answer, push_cannot};
+pub use rows::FrameRows;
+pub use texts::Unable;

@@ -1,26 +1,25 @@
 // A frame explained field by field, a line for each field; each line begins with blanks.
-ghost use Rattle.std.specs.Prelude.{◌≡◌, OnOk};
-ghost use Rattle.words.specs.Added.{Adds};
+ghost use Rattle.std.specs.Prelude.{◌≡◌, reverse, false, slice_index_or, length, ◌++◌, codes, Some};
+ghost use Rattle.std.specs.Fmt.{WritesOnOk};
+ghost use Rattle.checks.specs.Bits.{bits};
 ghost use Rattle.frames.specs.Calls.{width_of, packet_of};
-ghost use Rattle.results.specs.Rows.{binary, preamble_row, address_row, numbered_row, no_ack_row, payload_row, check_digits, check_note, check_row, packet_rows, rows_found};
+ghost use Rattle.results.specs.Rows.{preamble_row, no_ack_row, check_row, packet_rows, rows_found};
 
 use crate::carrying::read_as;
 use checks::bit_at;
 use frames::{AddressWidth, Heard};
 use requests::Kind;
-use std::alloc::{AllocError, Global};
-use words::{push_bytes, push_decimal, push_digits, push_text, reversed};
+use std::fmt;
+use words::{Apart, Joined, Reversed};
 
-// The low bits of a number, most significant first.
-fn push_binary(out: &mut Vec<u8>, width: u8, n: u8) -> Result<(), AllocError>
-    ensures { OnOk result (Adds out.old.items (binary width n) out.new.items) }
+// Whether an address begins with bit 1. It is sent high byte first, and kept low byte first.
+fn begins_with_one(low_first: &[u8]) -> bool
+    ensures { result ≡ slice_index_or (bits (reverse low_first.now)) 0 false }
 {
-    if width == 0 {
-        return Ok(());
+    match low_first.split_last() {
+        Some((high, _)) => bit_at(&[*high], 0),
+        None => false,
     }
-    push_binary(out, width - 1, n / 2)?;
-    out.push(b'0' + n % 2)?;
-    Ok(())
 }
 
 fn preamble(first: bool) -> &'static str
@@ -33,31 +32,6 @@ fn preamble(first: bool) -> &'static str
     }
 }
 
-fn push_address(out: &mut Vec<u8>, high_first: &[u8]) -> Result<(), AllocError>
-    ensures { OnOk result (Adds out.old.items (address_row high_first.now) out.new.items) }
-{
-    push_text(out, "     address   ")?;
-    push_digits(out, high_first)?;
-    push_text(out, " (")?;
-    push_decimal(out, high_first.len() as u64)?;
-    push_text(out, " bytes, high byte first)\n")?;
-    Ok(())
-}
-
-// A number in decimal and in so many bits.
-fn push_numbered(out: &mut Vec<u8>, name: &str, n: u8, width: u8) -> Result<(), AllocError>
-    ensures { OnOk result (Adds out.old.items (numbered_row name.now n width) out.new.items) }
-{
-    push_text(out, name)?;
-    push_decimal(out, n as u64)?;
-    push_text(out, " (")?;
-    push_decimal(out, width as u64)?;
-    push_text(out, " bits: ")?;
-    push_binary(out, width, n)?;
-    push_text(out, ")\n")?;
-    Ok(())
-}
-
 fn no_ack(set: bool) -> &'static str
     ensures { result.now ≡ no_ack_row set }
 {
@@ -68,78 +42,94 @@ fn no_ack(set: bool) -> &'static str
     }
 }
 
-fn push_payload(out: &mut Vec<u8>, bytes: &[u8]) -> Result<(), AllocError>
-    ensures { OnOk result (Adds out.old.items (payload_row bytes.now) out.new.items) }
-{
-    push_text(out, "     payload  ")?;
-    push_bytes(out, bytes)?;
-    push_text(out, "\n")?;
-    Ok(())
-}
-
-fn push_check_digits(out: &mut Vec<u8>, kind: Kind, check: u16) -> Result<(), AllocError>
-    ensures { OnOk result (Adds out.old.items (check_digits kind check) out.new.items) }
-{
-    let low = (check % 256) as u8;
-    match kind {
-        Kind::Crc8 => push_digits(out, &[low]),
-        Kind::Crc16 => push_digits(out, &[(check / 256) as u8, low]),
-    }
-}
-
-fn check_text(kind: Kind) -> &'static str
-    ensures { result.now ≡ check_note kind }
-{
-    match kind {
-        Kind::Crc8 => " (8 bits, polynomial 07 from FF, over address, control and payload)\n",
-        Kind::Crc16 => " (16 bits, polynomial 1021 from FFFF, over address, control and payload)\n",
-    }
-}
-
-fn push_check(out: &mut Vec<u8>, kind: Kind, check: u16) -> Result<(), AllocError>
-    ensures { OnOk result (Adds out.old.items (check_row kind check) out.new.items) }
-{
-    push_text(out, "     check     ")?;
-    push_check_digits(out, kind, check)?;
-    push_text(out, check_text(kind))?;
-    Ok(())
-}
-
-fn push_rows(heap: Global, out: &mut Vec<u8>, kind: Kind, heard: &Heard) -> Result<(), AllocError>
-    ensures { OnOk result (Adds out.old.items (packet_rows kind (packet_of heard.now.fields) heard.now.check) out.new.items) }
-{
-    let high_first = reversed(heap, heard.fields.address.bytes())?;
-    let payload = heard.fields.payload.bytes();
-    push_text(out, preamble(bit_at(&high_first, 0)))?;
-    push_address(out, &high_first)?;
-    push_numbered(out, "     length    ", payload.len() as u8, 6)?;
-    push_numbered(out, "     PID       ", heard.fields.pid.number(), 2)?;
-    push_text(out, no_ack(heard.fields.no_ack))?;
-    push_payload(out, payload)?;
-    push_check(out, kind, heard.check)?;
-    push_text(out, "     spare     7 bits 0 (to fill the last byte)\n")?;
-    Ok(())
-}
-
-// Adds what a reader of addresses of that width finds in the first bits of a frame, field by field; nothing where there is no frame.
-pub fn explain(
-    heap: Global,
-    out: &mut Vec<u8>,
+// The check of a frame.
+#[derive(Clone, Copy)]
+struct Check {
     kind: Kind,
-    frame: &[u8],
-    count: usize,
-    width: AddressWidth,
-) -> Result<(), AllocError>
-    ensures { OnOk result (Adds out.old.items (rows_found kind (width_of width) count frame.now) out.new.items) }
-{
-    match read_as(kind, frame, count, width) {
-        Ok(heard) => match heard {
-            Some(heard) => {
-                push_rows(heap, out, kind, &heard)?;
-                Ok(())
+    check: u16,
+}
+
+impl fmt::Display for Check {
+    ghost output = { λ x. Some (check_row x.kind x.check) };
+
+    fn fmt<W: fmt::Write>(&self, f: &mut fmt::Formatter<W>) -> fmt::Result {
+        let [high, low] = self.check.to_be_bytes();
+        match self.kind {
+            Kind::Crc8 => writeln!(
+                f,
+                "     check     {} (8 bits, polynomial 07 from FF, over address, control and payload)",
+                Joined(&[low])
+            ),
+            Kind::Crc16 => writeln!(
+                f,
+                "     check     {} (16 bits, polynomial 1021 from FFFF, over address, control and payload)",
+                Joined(&[high, low])
+            ),
+        }
+    }
+}
+
+// What was heard, field by field.
+#[derive(Clone, Copy)]
+struct PacketRows<'a> {
+    kind: Kind,
+    heard: &'a Heard,
+}
+
+impl fmt::Display for PacketRows<'_> {
+    ghost output = { λ x. Some (packet_rows x.kind (packet_of x.heard.now.fields) x.heard.now.check) };
+
+    fn fmt<W: fmt::Write>(&self, f: &mut fmt::Formatter<W>) -> fmt::Result {
+        let fields = &self.heard.fields;
+        let address = fields.address.bytes();
+        let payload = fields.payload.bytes();
+        let length = payload.len();
+        let pid = fields.pid.number();
+        let check = Check {
+            kind: self.kind,
+            check: self.heard.check,
+        };
+        f.write_str(preamble(begins_with_one(address)))?;
+        writeln!(
+            f,
+            "     address   {} ({} bytes, high byte first)",
+            Reversed(address),
+            address.len()
+        )?;
+        writeln!(f, "     length    {length} (6 bits: {length:06b})")?;
+        writeln!(f, "     PID       {pid} (2 bits: {pid:02b})")?;
+        f.write_str(no_ack(fields.no_ack))?;
+        writeln!(f, "     payload  {}", Apart(payload))?;
+        writeln!(f, "{check}     spare     7 bits 0 (to fill the last byte)")
+    }
+}
+
+// What a reader of addresses of that width finds in the first bits of a frame, field by field; nothing where there is no frame.
+#[derive(Clone, Copy)]
+pub struct FrameRows<'a> {
+    pub kind: Kind,
+    pub frame: &'a [u8],
+    pub count: usize,
+    pub width: AddressWidth,
+}
+
+impl fmt::Display for FrameRows<'_> {
+    ghost output = { λ x. Some (rows_found x.kind (width_of x.width) x.count x.frame.now) };
+
+    fn fmt<W: fmt::Write>(&self, f: &mut fmt::Formatter<W>) -> fmt::Result {
+        match read_as(self.kind, self.frame, self.count, self.width) {
+            Ok(Some(heard)) => {
+                let kind = self.kind;
+                write!(
+                    f,
+                    "{}",
+                    PacketRows {
+                        kind,
+                        heard: &heard
+                    }
+                )
             }
-            None => Ok(()),
-        },
-        Err(_) => Ok(()),
+            _ => Ok(()),
+        }
     }
 }

@@ -1,92 +1,57 @@
-// The texts of results. A call that finds no memory may leave a part written.
-ghost use Rattle.std.specs.Prelude.{◌≡◌, ◌+◌, ◌/◌, ◌++◌, OnOk};
-ghost use Rattle.words.specs.Added.{Adds};
+// The texts of results.
+ghost use Rattle.std.specs.Prelude.{◌≡◌, Some};
 ghost use Rattle.frames.specs.Calls.{packet_of};
 ghost use Rattle.results.specs.Outcomes.{outcome_of};
-ghost use Rattle.results.specs.Texts.{no_ack_text, packet_text, frame_text, refusal_text, field_text, result_text, usage_text, wanted_text, word_text, why_text, cannot_text};
+ghost use Rattle.results.specs.Texts.{packet_text, frame_text, result_text, usage_text, wanted_text, cannot_text};
 
 use crate::carrying::Answer;
-use answers::{front, push_lack, push_unit_answer};
+use answers::{Lacking, Refused, Said, front};
 use frames::Fields;
 use requests::{Cannot, Form, Wanted};
-use std::alloc::{AllocError, Global};
-use words::{push_bytes, push_decimal, push_digits, push_text, reversed};
+use std::fmt;
+use words::{Apart, Reversed};
 
-// How many bytes so many bits fill.
-fn filled(bits: usize) -> usize
-    ensures { result ≡ (bits + 7) / 8 }
-{
-    if bits % 8 == 0 {
-        bits / 8
-    } else {
-        bits / 8 + 1
+// A packet: its address high byte first, packet identity, no-acknowledgement, payload.
+#[derive(Clone, Copy)]
+struct Packet<'a>(&'a Fields);
+
+impl fmt::Display for Packet<'_> {
+    ghost output = { λ x. Some (packet_text (packet_of x.0.now)) };
+
+    fn fmt<W: fmt::Write>(&self, f: &mut fmt::Formatter<W>) -> fmt::Result {
+        let Packet(fields) = *self;
+        let pid = fields.pid.number();
+        let no_ack = u8::from(fields.no_ack);
+        write!(
+            f,
+            "ok {} {pid} {no_ack}{}",
+            Reversed(fields.address.bytes()),
+            Apart(fields.payload.bytes())
+        )
     }
 }
 
-fn no_ack_digit(no_ack: bool) -> &'static str
-    ensures { result.now ≡ no_ack_text no_ack }
-{
-    if no_ack { " 1" } else { " 0" }
-}
+impl fmt::Display for Answer<'_> {
+    ghost output = { λ a. Some (result_text (outcome_of a)) };
 
-fn push_packet(heap: Global, out: &mut Vec<u8>, fields: &Fields) -> Result<(), AllocError>
-    ensures { OnOk result (Adds out.old.items (packet_text (packet_of fields.now)) out.new.items) }
-{
-    let high_first = reversed(heap, fields.address.bytes())?;
-    push_text(out, "ok ")?;
-    push_digits(out, &high_first)?;
-    push_text(out, " ")?;
-    push_decimal(out, fields.pid.number() as u64)?;
-    push_text(out, no_ack_digit(fields.no_ack))?;
-    push_bytes(out, fields.payload.bytes())?;
-    Ok(())
-}
-
-fn push_frame(out: &mut Vec<u8>, bits: usize, buffer: &[u8]) -> Result<(), AllocError>
-    ensures { OnOk result (Adds out.old.items (frame_text bits buffer.now) out.new.items) }
-{
-    push_text(out, "ok frame ")?;
-    push_decimal(out, bits as u64)?;
-    push_bytes(out, front(buffer, filled(bits)))?;
-    Ok(())
-}
-
-fn push_refusal(out: &mut Vec<u8>, number: u8) -> Result<(), AllocError>
-    ensures { OnOk result (Adds out.old.items (refusal_text number) out.new.items) }
-{
-    push_text(out, "refused ")?;
-    push_decimal(out, number as u64)?;
-    push_text(out, " (bits beyond the frame's bytes)")?;
-    Ok(())
-}
-
-fn push_field(out: &mut Vec<u8>, bytes: &[u8]) -> Result<(), AllocError>
-    ensures { OnOk result (Adds out.old.items (field_text bytes.now) out.new.items) }
-{
-    push_text(out, "ok")?;
-    push_bytes(out, bytes)?;
-    Ok(())
-}
-
-// Adds the result of a line that was carried out.
-pub fn push_answer(heap: Global, out: &mut Vec<u8>, answer: &Answer) -> Result<(), AllocError>
-    ensures { OnOk result (Adds out.old.items (result_text (outcome_of answer.now)) out.new.items) }
-{
-    match answer {
-        Answer::Done => push_text(out, "ok"),
-        Answer::Frame { bits, buffer } => push_frame(out, *bits, buffer),
-        Answer::Heard(heard) => push_packet(heap, out, &heard.fields),
-        Answer::Nothing => {
-            push_text(out, "ok nothing")?;
-            Ok(())
+    fn fmt<W: fmt::Write>(&self, f: &mut fmt::Formatter<W>) -> fmt::Result {
+        match self {
+            Answer::Done => f.write_str("ok"),
+            Answer::Frame { bits, buffer } => {
+                write!(
+                    f,
+                    "ok frame {bits}{}",
+                    Apart(front(buffer, bits.div_ceil(8)))
+                )
+            }
+            Answer::Read(Ok(Some(heard))) => write!(f, "{}", Packet(&heard.fields)),
+            Answer::Read(Ok(None)) => f.write_str("ok nothing"),
+            Answer::Read(Err(refusal)) => write!(f, "refused {} ({refusal})", refusal.number()),
+            Answer::Field(Ok(Some(bytes))) => write!(f, "ok{}", Apart(bytes)),
+            Answer::Field(Ok(None)) => f.write_str("ok absent"),
+            Answer::Field(Err(refusal)) => write!(f, "{}", Refused(*refusal)),
+            Answer::Unit(result) => write!(f, "{}", Said(result)),
         }
-        Answer::Refused(refusal) => push_refusal(out, refusal.number()),
-        Answer::Field(bytes) => push_field(out, bytes),
-        Answer::Absent => {
-            push_text(out, "ok absent")?;
-            Ok(())
-        }
-        Answer::Unit(answer) => push_unit_answer(out, answer),
     }
 }
 
@@ -128,51 +93,20 @@ fn wish(wanted: Wanted) -> &'static str
     }
 }
 
-fn push_usage(out: &mut Vec<u8>, fault: &str, form: Form) -> Result<(), AllocError>
-    ensures { OnOk result (Adds out.old.items (fault.now ++ usage_text form) out.new.items) }
-{
-    push_text(out, fault)?;
-    push_text(out, usage(form))?;
-    Ok(())
-}
+// The result of a line that cannot be carried out, with the reason.
+#[derive(Clone, Copy, Debug, PartialEq, Eq)]
+pub struct Unable(pub Cannot);
 
-fn push_word(out: &mut Vec<u8>, word: usize, wanted: Wanted) -> Result<(), AllocError>
-    ensures { OnOk result (Adds out.old.items (word_text word wanted) out.new.items) }
-{
-    push_text(out, "word ")?;
-    push_decimal(out, word as u64)?;
-    push_text(out, ": ")?;
-    push_text(out, wish(wanted))?;
-    Ok(())
-}
+impl fmt::Display for Unable {
+    ghost output = { λ x. Some (cannot_text x.0) };
 
-fn push_why(out: &mut Vec<u8>, cannot: Cannot) -> Result<(), AllocError>
-    ensures { OnOk result (Adds out.old.items (why_text cannot) out.new.items) }
-{
-    match cannot {
-        Cannot::Word { word, wanted } => push_word(out, word, wanted),
-        Cannot::TooFew(form) => {
-            push_usage(out, "too few words: ", form)?;
-            Ok(())
+    fn fmt<W: fmt::Write>(&self, f: &mut fmt::Formatter<W>) -> fmt::Result {
+        match self.0 {
+            Cannot::Word { word, wanted } => write!(f, "cannot (word {word}: {})", wish(wanted)),
+            Cannot::TooFew(form) => write!(f, "cannot (too few words: {})", usage(form)),
+            Cannot::TooMany(form) => write!(f, "cannot (too many words: {})", usage(form)),
+            Cannot::PayloadLength => f.write_str("cannot (over 32 payload bytes)"),
+            Cannot::Unit { label, lack } => write!(f, "cannot ({})", Lacking { label, lack }),
         }
-        Cannot::TooMany(form) => {
-            push_usage(out, "too many words: ", form)?;
-            Ok(())
-        }
-        Cannot::PayloadLength => {
-            push_text(out, "over 32 payload bytes")?;
-            Ok(())
-        }
-        Cannot::Unit { label, lack } => push_lack(out, label, lack),
     }
-}
-
-// Adds the result of a line that cannot be carried out, with the reason.
-pub fn push_cannot(out: &mut Vec<u8>, cannot: Cannot) -> Result<(), AllocError>
-    ensures { OnOk result (Adds out.old.items (cannot_text cannot) out.new.items) }
-{
-    push_text(out, "cannot (")?;
-    push_why(out, cannot)?;
-    push_text(out, ")")?;
-    Ok(())
 }

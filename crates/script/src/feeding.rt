@@ -34,20 +34,16 @@ where
     R: Drop,
 {
     let mut input = BufReader::new(heap, input).map_err(|_| Halt::Memory)?;
-    let mut line: Vec<u8> = Vec::new(heap);
-    let mut text: Vec<u8> = Vec::new(heap);
+    let mut line = Vec::new(heap);
+    let mut text = String::new(heap);
     for _ in 0..u64::MAX {
         line.clear();
         text.clear();
-        match input.read_until(b'\n', &mut line) {
-            Ok(0) => break,
-            Ok(_) => {}
-            Err(e) => return Err(Halt::Input(e)),
+        if input.read_until(b'\n', &mut line).map_err(Halt::Input)? == 0 {
+            break;
         }
         console.take(heap, &line, &mut text)?;
-        if let Err(e) = out.write_all(&text) {
-            return Err(Halt::Output(e));
-        }
+        out.write_all(text.as_bytes()).map_err(Halt::Output)?;
     }
     Ok(())
 }

@@ -9,20 +9,13 @@ use std::{env, io};
 
 // Says on standard error why a script was not read to its end.
 fn tell(rt: &HostRuntime, name: &str, halt: Halt) -> io::Error {
-    match halt {
-        Halt::Input(e) => {
-            let _ = eprintln!(rt; "sinkapricot: {name}: {e}");
-            e
-        }
-        Halt::Output(e) => {
-            let _ = eprintln!(rt; "sinkapricot: standard output: {e}");
-            e
-        }
-        Halt::Memory => {
-            let _ = eprintln!(rt; "sinkapricot: {name}: out of memory");
-            io::Error::other("out of memory")
-        }
-    }
+    let (place, e) = match halt {
+        Halt::Input(e) => (name, e),
+        Halt::Output(e) => ("standard output", e),
+        Halt::Memory => (name, io::Error::other("out of memory")),
+    };
+    let _ = eprintln!(rt; "sinkapricot: {place}: {e}");
+    e
 }
 
 fn feed_file<W: Write>(
@@ -31,30 +24,24 @@ fn feed_file<W: Write>(
     name: &str,
     out: &mut W,
 ) -> Result<(), Halt> {
-    match File::open(rt, name) {
-        Ok(file) => feed(console, rt.alloc(), file, out),
-        Err(e) => Err(Halt::Input(e)),
-    }
+    let file = File::open(rt, name).map_err(Halt::Input)?;
+    feed(console, rt.alloc(), file, out)
 }
 
 // Takes the lines of all scripts, one after another.
 fn feed_all<W: Write>(rt: &HostRuntime, console: &mut Console, out: &mut W) -> io::Result<()> {
-    let mut names = match env::args(rt) {
-        Ok(names) => names,
-        Err(e) => return Err(tell(rt, "the arguments", Halt::Input(e))),
-    };
-    let _program = names.next();
-    let mut is_named = false;
-    for name in names {
-        is_named = true;
-        if let Err(halt) = feed_file(rt, console, name.as_str(), out) {
-            return Err(tell(rt, name.as_str(), halt));
-        }
+    let args = env::args(rt).map_err(|e| tell(rt, "the arguments", Halt::Input(e)))?;
+    let mut names = args.skip(1).peekable();
+    if names.peek().is_none() {
+        return feed(console, rt.alloc(), rt.stdin(), out).map_err(|halt| tell(
+            rt,
+            "standard input",
+            halt,
+        ));
     }
-    if !is_named {
-        if let Err(halt) = feed(console, rt.alloc(), rt.stdin(), out) {
-            return Err(tell(rt, "standard input", halt));
-        }
+    for name in names {
+        let name = name.as_str();
+        feed_file(rt, console, name, out).map_err(|halt| tell(rt, name, halt))?;
     }
     Ok(())
 }
@@ -73,9 +60,7 @@ fn run(rt: &HostRuntime) -> io::Result<()> {
     let out = BufWriter::new(rt.alloc(), rt.stdout());
     let mut out = out.map_err(|_| tell(rt, "standard output", Halt::Memory))?;
     let fed = feed_all(rt, &mut console, &mut out);
-    if let Err(e) = close(&console, &mut out) {
-        return Err(tell(rt, "", Halt::Output(e)));
-    }
+    close(&console, &mut out).map_err(|e| tell(rt, "", Halt::Output(e)))?;
     fed?;
     let (_, unable) = console.tally();
     if unable > 0 {
