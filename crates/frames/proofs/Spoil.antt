@@ -1,5 +1,6 @@
 -- A change within w consecutive bits shows.
-use Rattle.std.proofs.Common.{◌≡◌, ℕ, zero, suc, ◌^◌, ◌<◌, ◌≤◌, Bool, true, false, ◌⊎◌, List, [], ◌∷◌, ◌++◌, length, take, drop, Some, None, Option, sym, refl, ap, ◌∙◌, subst, inl, inr, suc-le-suc, zero-le, arith, take-append-drop}
+use Rattle.std.proofs.Common.{◌≡◌, ℕ, zero, suc, ◌^◌, ◌<◌, ◌≤◌, Bool, true, false, ◌⊎◌, List, [], ◌∷◌, ◌++◌, length, take, drop, Some, None, Option, sym, refl, ap, ◌∙◌, subst, inl, inr, zero-le, arith, take-append-drop}
+use Rattle.std.proofs.lemmas.List.{length-take}
 use Rattle.checks.specs.Crc.{differs}
 use Rattle.checks.specs.Burst.{EndsInOwnCheck, Burst}
 use Rattle.frames.specs.Packet.{covered, frame_bits, reading}
@@ -31,11 +32,6 @@ flip_front [] (y ∷ ys) = refl
 flip_front (x ∷ xs) [] = refl
 flip_front (x ∷ xs) (y ∷ ys) = ap (λ (z : List Bool). differs x y ∷ z) (flip_front xs ys)
 
-front_le : (k : ℕ) (xs : List Bool) → length (take k xs) ≤ k
-front_le zero xs = zero-le
-front_le (suc k) [] = zero-le
-front_le (suc k) (x ∷ xs) = suc-le-suc (front_le k xs)
-
 -- the burst law, by patterns
 pub shows_change :
     (w : ℕ) (f : List Bool → ℕ) → Burst w f → (t : List Bool) (s : ℕ) (ys : List Bool) → length ys ≤ w → (changed t s ys ≡ t → ⊥)
@@ -48,7 +44,7 @@ shows_change w f law t s ys l ne ok bad =
     let e : List Bool = flip d ys in
     let was : a ++ (d ++ b) ≡ t = ap (λ (z : List Bool). a ++ z) (take-append-drop (length ys) r) ∙ take-append-drop s t in
     let is : changed t s ys ≡ a ++ (e ++ b) = ap (λ (z : List Bool). a ++ z) (flip_front r ys) in
-    let n : length d ≤ length ys = front_le (length ys) r in
+    let n : length d ≤ length ys = omega (arith, length-take (length ys) r) in
     law a d e b (sym (length_flip d ys)) (omega (arith, n, l))
     (λ q. ne (is ∙ ap (λ (z : List Bool). a ++ (z ++ b)) (sym q) ∙ was))
     (subst (EndsInOwnCheck w f) (sym was) ok) (subst (EndsInOwnCheck w f) is bad)

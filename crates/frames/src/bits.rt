@@ -1,5 +1,5 @@
-// Numbers and bytes in the bits of a buffer. The loops over a number's bits go by their places, since a number is no
-// collection, and each place is both shifted by and written to.
+// Numbers and bytes in the bits of a buffer. The loops over a number's bits go by their places: neither a number nor a
+// part of a slice has an iterator over its bits.
 ghost use Rattle.std.specs.Prelude.{◌≡◌, ℕ, ◌+◌, ◌-◌, ◌*◌, ◌^◌, ◌<◌, ◌≤◌, false, length, take, drop, slice_index, slice_set};
 ghost use Rattle.std.proofs.Math.Seq.{paste};
 ghost use Rattle.checks.specs.Bits.{word, bits};

@@ -47,6 +47,7 @@ fn fields_at(frame: &[u8], layout: Layout) -> Fields
     let high_first = &mut address[0..layout.wide.bytes()];
     get_octets(frame, 8, high_first);
     high_first.reverse();
+    // two bits are a number below 4
     let pid = Pid::try_from(get_bits(frame, control + 6, 2) as u8).unwrap();
     let mut payload = [0; 32];
     get_octets(frame, layout.payload(), &mut payload[0..layout.len]);
