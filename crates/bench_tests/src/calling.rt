@@ -59,33 +59,26 @@ pub(crate) fn called(unit: Bench, call: Call, buffer: &mut [u8]) -> (Bench, Opti
 }
 
 pub(crate) fn address_of(register: Option<Register>) -> Option<u8> {
-    match register {
-        Some(register) => Some(register.address()),
-        None => None,
-    }
+    register.map(Register::address)
 }
 
 // Whether this refusal came, with this register.
 pub(crate) fn is_refusal(given: Option<Refusal>, number: u8, register: Option<u8>) -> bool {
-    match given {
-        Some(refusal) => refusal.number() == number && address_of(refusal.register()) == register,
-        None => false,
-    }
+    given.is_some_and(|refusal| {
+        refusal.number() == number && address_of(refusal.register()) == register
+    })
 }
 
 // Whether a buffer holds a reply with this answer, and behind it what was there.
 pub(crate) fn is_reply(buffer: &[u8], answer: &[u8]) -> bool {
-    for (i, b) in buffer.iter().enumerate() {
+    buffer.iter().enumerate().all(|(i, b)| {
         let wanted = if i == 0 {
             STATUS
         } else {
             answer.get(i - 1).copied().unwrap_or(UNTOUCHED)
         };
-        if *b != wanted {
-            return false;
-        }
-    }
-    true
+        *b == wanted
+    })
 }
 
 // Whether the command is carried out, with a reply of STATUS alone.
@@ -114,20 +107,17 @@ pub(crate) fn keeps(unit: &mut Bench, start: Start, address: u8) -> bool {
 }
 
 pub(crate) fn keeps_all(unit: &mut Bench, start: Start) -> bool {
-    for address in 0..24 {
-        if !keeps(unit, start, address) {
-            return false;
-        }
-    }
-    true
+    Register::all()
+        .iter()
+        .all(|register| keeps(unit, start, register.address()))
 }
 
 // Whether one register reads this value, and all others as they do at the start.
 pub(crate) fn keeps_others(unit: &mut Bench, start: Start, register: u8, value: &[u8]) -> bool {
-    for address in 0..24 {
-        if address != register && !keeps(unit, start, address) {
-            return false;
-        }
-    }
-    reads(unit, register, value)
+    Register::all()
+        .iter()
+        .map(|other| other.address())
+        .filter(|other| *other != register)
+        .all(|other| keeps(unit, start, other))
+        && reads(unit, register, value)
 }

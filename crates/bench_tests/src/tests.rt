@@ -5,6 +5,7 @@ use crate::table::{FIRST_BYTES, PROFILES, REFUSED, SETUPS, VALUES, WIDE_VALUES, 
 use bench::Bench;
 use checks::{Check, Crc8, Crc16};
 use profile::{field, number_of_fields};
+use registers::Register;
 use unit::Boxed;
 
 // NOP, and a write of STATUS, change no register.
@@ -49,10 +50,8 @@ fn begins(first: u8, number: Option<u8>) -> bool {
 
 #[test]
 fn first_bytes(rt: HostRuntime) {
-    let mut first = 0u8;
-    for number in FIRST_BYTES.iter() {
+    for (first, number) in (0u8..=255).zip(FIRST_BYTES.iter()) {
         assert!(rt; begins(first, *number), "{}", first);
-        first = first.wrapping_add(1);
     }
 }
 
@@ -133,39 +132,28 @@ fn wide_values(rt: HostRuntime) {
 }
 
 fn field_of(fields: &'static [Field], register: u8) -> Option<&'static [u8]> {
-    for field in fields.iter() {
-        if field.register == register {
-            return Some(field.bytes);
-        }
-    }
-    None
+    fields
+        .iter()
+        .find(|field| field.register == register)
+        .map(|field| field.bytes)
 }
 
 // The field of every register, also where there is none.
 fn looks_up(row: &Profile) -> bool {
-    for register in 0u8..=255 {
-        let Ok(found) = field(row.bytes, register) else {
-            return false;
-        };
-        if found != field_of(row.fields, register) {
-            return false;
-        }
-    }
-    number_of_fields(row.bytes).ok() == Some(row.count)
+    (0u8..=255).all(|register| {
+        field(row.bytes, register).is_ok_and(|found| found == field_of(row.fields, register))
+    }) && number_of_fields(row.bytes).ok() == Some(row.count)
 }
 
 // Whether each register of the profile reads its field, and each other as it does at the start.
 fn holds(unit: &mut Bench, start: Start, fields: &'static [Field]) -> bool {
-    for register in 0..24 {
-        let right = match field_of(fields, register) {
+    Register::all()
+        .iter()
+        .map(|register| register.address())
+        .all(|register| match field_of(fields, register) {
             Some(value) => reads(unit, register, value),
             None => keeps(unit, start, register),
-        };
-        if !right {
-            return false;
-        }
-    }
-    true
+        })
 }
 
 fn loads_all(row: &Profile, start: Start) -> bool {
@@ -190,13 +178,9 @@ fn profiles(rt: HostRuntime) {
 
 // Whether the loader, the count and every lookup refuse the profile.
 fn is_wrong(profile: &[u8]) -> bool {
-    for register in 0u8..=255 {
-        if !is_refusal(field(profile, register).err(), 11, None) {
-            return false;
-        }
-    }
     let (mut unit, given) = started(Start::Written).load(profile);
-    is_refusal(number_of_fields(profile).err(), 11, None)
+    (0u8..=255).all(|register| is_refusal(field(profile, register).err(), 11, None))
+        && is_refusal(number_of_fields(profile).err(), 11, None)
         && is_refusal(given.err(), 11, None)
         && keeps_all(&mut unit, Start::Written)
 }
@@ -210,14 +194,7 @@ fn wrong_profiles(rt: HostRuntime) {
 
 // Writes registers of one byte that follow one another.
 fn writes_each(unit: &mut Bench, first: u8, values: &[u8]) -> bool {
-    let mut register = first;
-    for value in values.iter() {
-        if !serves(unit, &[0x20 | register, *value]) {
-            return false;
-        }
-        register = register.wrapping_add(1);
-    }
-    true
+    (first..).zip(values.iter()).all(|(register, value)| serves(unit, &[0x20 | register, *value]))
 }
 
 fn sets_up(unit: &mut Bench, row: &Setup, config: u8) -> bool {

@@ -1,4 +1,4 @@
-ghost use Rattle.std.specs.Prelude.{◌≡◌, ◌≤◌, length, take, slice_index};
+ghost use Rattle.std.specs.Prelude.{◌≡◌, ◌≤◌, length, slice_index};
 ghost use Rattle.registers.specs.Table.{size_of};
 ghost use Rattle.registers.specs.File.{padded, value_of, byte_of, written, at_reset, Holds, StartsAllowed};
 
