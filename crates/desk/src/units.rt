@@ -78,6 +78,7 @@ impl Units {
         self.pass_on(label, line)
     }
 
+    // Apart from `call`, so that what `call` says of the other places follows from one promise and not once for each check.
     fn pass_on(&mut self, label: Label, line: &UnitLine) -> Result<UnitResult, Lack>
         ensures after { self.new ≡ units_after self.old label.place (asked_of line.now) }
         ensures answer { Says result (units_said self.old label.place (asked_of line.now)) }

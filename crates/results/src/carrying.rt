@@ -23,6 +23,15 @@ pub enum Answer<'a> {
     Unit(UnitResult),
 }
 
+// The first bits of a frame, for a reader of addresses of that width. It prints what the reader finds, field by field.
+#[derive(Clone, Copy)]
+pub struct Reading<'a> {
+    pub kind: Kind,
+    pub frame: &'a [u8],
+    pub count: usize,
+    pub width: AddressWidth,
+}
+
 // This and the next are alike: a script names the check while it runs, so a match chooses the type of the check, and no closure can take a type.
 fn pack_as(kind: Kind, fields: &Fields, frame: &mut [u8]) -> Result<usize, frames::Refusal>
     ensures { Packed (check_width kind) (check_meaning kind) (packet_of fields.now) frame.old result frame.new }
@@ -33,17 +42,15 @@ fn pack_as(kind: Kind, fields: &Fields, frame: &mut [u8]) -> Result<usize, frame
     }
 }
 
-pub(crate) fn read_as(
-    kind: Kind,
-    frame: &[u8],
-    count: usize,
-    width: AddressWidth,
-) -> Result<Option<Heard>, frames::Refusal>
-    ensures { Reads (check_width kind) (check_meaning kind) (width_of width) frame.now count result }
-{
-    match kind {
-        Kind::Crc8 => read::<Crc8>(frame, count, width),
-        Kind::Crc16 => read::<Crc16>(frame, count, width),
+impl Reading<'_> {
+    // What the reader finds, if it finds a packet.
+    pub(crate) fn heard(&self) -> Result<Option<Heard>, frames::Refusal>
+        ensures { Reads (check_width self.now.kind) (check_meaning self.now.kind) (width_of self.now.width) self.now.frame.now self.now.count result }
+    {
+        match self.kind {
+            Kind::Crc8 => read::<Crc8>(self.frame, self.count, self.width),
+            Kind::Crc16 => read::<Crc16>(self.frame, self.count, self.width),
+        }
     }
 }
 
@@ -67,8 +74,13 @@ fn done_with<'a>(units: &mut Units, line: &'a Line) -> Result<Answer<'a>, Cannot
         }
         Line::Pack(fields) => Ok(packed(units.kind(), fields)),
         Line::Read { width, bits, bytes } => {
-            let (kind, count) = (units.kind(), usize::from(*bits));
-            Ok(Answer::Read(read_as(kind, bytes, count, *width)))
+            let reading = Reading {
+                kind: units.kind(),
+                frame: bytes,
+                count: usize::from(*bits),
+                width: *width,
+            };
+            Ok(Answer::Read(reading.heard()))
         }
         Line::Field { register, profile } => {
             Ok(Answer::Field(profile::field(profile, *register)))

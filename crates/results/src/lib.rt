@@ -5,6 +5,5 @@ mod carrying;
 mod rows;
 mod texts;
 
-pub use carrying::{Answer, carry_out};
-pub use rows::FrameRows;
+pub use carrying::{Answer, Reading, carry_out};
 pub use texts::Unable;

@@ -5,9 +5,9 @@ ghost use Rattle.checks.specs.Bits.{bits};
 ghost use Rattle.frames.specs.Calls.{width_of, packet_of};
 ghost use Rattle.results.specs.Rows.{preamble_row, no_ack_row, check_row, packet_rows, rows_found};
 
-use crate::carrying::read_as;
+use crate::carrying::Reading;
 use checks::bit_at;
-use frames::{AddressWidth, Heard};
+use frames::Heard;
 use requests::Kind;
 use std::fmt;
 use words::{Apart, Joined, Reversed};
@@ -104,30 +104,16 @@ impl fmt::Display for PacketRows<'_> {
     }
 }
 
-// What a reader of addresses of that width finds in the first bits of a frame, field by field; nothing where there is no frame.
-#[derive(Clone, Copy)]
-pub struct FrameRows<'a> {
-    pub kind: Kind,
-    pub frame: &'a [u8],
-    pub count: usize,
-    pub width: AddressWidth,
-}
-
-impl fmt::Display for FrameRows<'_> {
+// Nothing is printed where there is no frame.
+impl fmt::Display for Reading<'_> {
     ghost output = { λ x. Some (rows_found x.kind (width_of x.width) x.count x.frame.now) };
 
     fn fmt<W: fmt::Write>(&self, f: &mut fmt::Formatter<W>) -> fmt::Result {
-        match read_as(self.kind, self.frame, self.count, self.width) {
+        match self.heard() {
             Ok(Some(heard)) => {
                 let kind = self.kind;
-                write!(
-                    f,
-                    "{}",
-                    PacketRows {
-                        kind,
-                        heard: &heard
-                    }
-                )
+                let heard = &heard;
+                write!(f, "{}", PacketRows { kind, heard })
             }
             _ => Ok(()),
         }

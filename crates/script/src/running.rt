@@ -9,7 +9,7 @@ ghost use Rattle.script.specs.Console.{explained, answer_text, request_text, lin
 use answers::ProfileRows;
 use desk::Units;
 use requests::{Cannot, Kind, Line, Stop, UnitLine, parse};
-use results::{Answer, FrameRows, Unable, carry_out};
+use results::{Answer, Reading, Unable, carry_out};
 use std::alloc::{AllocError, Global};
 use std::fmt;
 use words::words;
@@ -30,23 +30,23 @@ impl fmt::Display for Explained<'_> {
         match (self.line, self.answer) {
             (Line::Pack(fields), Answer::Frame { bits, buffer }) => {
                 let (count, width) = (*bits, fields.address.width());
-                let frame = FrameRows {
+                let reading = Reading {
                     kind,
                     frame: buffer,
                     count,
                     width,
                 };
-                write!(f, "{frame}")
+                write!(f, "{reading}")
             }
             (Line::Read { width, bits, bytes }, _) => {
                 let (count, width) = (usize::from(*bits), *width);
-                let frame = FrameRows {
+                let reading = Reading {
                     kind,
                     frame: bytes,
                     count,
                     width,
                 };
-                write!(f, "{frame}")
+                write!(f, "{reading}")
             }
             (Line::Field { profile, .. }, _) => write!(f, "{}", ProfileRows(profile)),
             (
@@ -120,6 +120,7 @@ impl Console {
         match parse(heap, words) {
             Ok(line) => self.carry(&line, out),
             Err(Stop::Cannot(cannot)) => self.refuse(cannot, out),
+            // no `?`: of the two reasons why a line goes no further only this one ends the run
             Err(Stop::Memory) => Err(AllocError),
         }
     }

@@ -4,12 +4,8 @@ use Rattle.results.specs.Outcomes.{carried, Kept}
 use Rattle.results.proofs.Unchanged.{carried_kept}
 use Rattle.results.proofs.carrying.carry_out.Goals as goal
 
-pub returns : goal.returns
-returns c =
+pub returns-clause-kept : goal.returns-clause-kept
+returns-clause-kept c =
     let us = c.args.units.now in
     let q = asked c.args.line.now in
-    record {
-      answer = c.done_with.ensures.answer;
-      units = c.done_with.ensures.units;
-      kept = subst (λ x. Kept (carried us q) us x) (sym c.done_with.ensures.units) (carried_kept us q);
-    }
+    subst (λ x. Kept (carried us q) us x) (sym c.done_with.ensures.units) (carried_kept us q)
