@@ -123,15 +123,15 @@ fn lowest_fault(file: &Registers, width: usize) -> Option<Register>
 impl Bench {
     // The lowest register with a fault, for a kind of check; none if the unit can be boxed and will work.
     pub fn fault<C: Check>(&self) -> Option<Register>
-        ensures value { result ≡ fault_of C.Check.width self.now.registers }
-        ensures law { LowestFault C.Check.width self.now.registers result }
+        ensures value { result ≡ fault_of C.Check.W self.now.registers }
+        ensures law { LowestFault C.Check.W self.now.registers result }
     {
-        lowest_fault(&self.registers, C::size())
+        lowest_fault(&self.registers, C::W)
     }
 
     // The check call: a refusal that names the lowest register with a fault.
     pub fn check<C: Check>(&self) -> Result<(), Refusal>
-        ensures { result ≡ check_answer (fault_of C.Check.width self.now.registers) }
+        ensures { result ≡ check_answer (fault_of C.Check.W self.now.registers) }
     {
         self.fault::<C>()
             .map_or(Ok(()), |register| Err(Refusal::Fault(register)))

@@ -88,7 +88,7 @@ impl<P: Parameters> Check for P {
 
     const W: usize = P::WIDTH;
 
-    ghost width = { P.WIDTH };
+    ghost W = { P.WIDTH };
 
     ghost meaning = { P.number };
 
@@ -97,10 +97,6 @@ impl<P: Parameters> Check for P {
     ghost below = { every_below P.WIDTH P.POLYNOMIAL P.START P.number P.ran (positive P.wide) P.odd P.small P.begun };
 
     ghost burst = { every_burst P.WIDTH P.POLYNOMIAL P.START P.number P.ran (positive P.wide) P.odd P.small P.begun };
-
-    fn size() -> usize {
-        P::WIDTH
-    }
 
     fn of(bytes: &[u8], n: usize) -> P::Word {
         P::word(remainder::<P>(bytes, n))

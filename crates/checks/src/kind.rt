@@ -35,31 +35,27 @@ pub trait Check {
     // how many bits the check has, 8 or 16
     const W: usize;
 
-    // the same number, as a clause can name it
-    ghost width: { ℕ };
+    // the same number, as a clause names it
+    ghost W: { ℕ };
 
     // the one number that the check of a bit string is
     ghost meaning: { List Bool → ℕ };
-
-    // W by a call, whose answer generic code knows to be the width; of the constant it knows nothing.
-    fn size() -> usize
-        ensures { result ≡ width };
 
     // The check of the first n bits, most significant bit first; of all bits if there are fewer.
     fn of(bytes: &[u8], n: usize) -> Self::Word
         ensures { Self.Word.Word.value result ≡ meaning (take n (bits bytes.now)) };
 
-    ghost wide: { (width ≡ 8) ⊎ (width ≡ 16) };
+    ghost wide: { (W ≡ 8) ⊎ (W ≡ 16) };
 
-    ghost below: { (s : List Bool) → meaning s < 2 ^ width };
+    ghost below: { (s : List Bool) → meaning s < 2 ^ W };
 
-    ghost burst: { Burst width meaning };
+    ghost burst: { Burst W meaning };
 }
 
 // The check of the first n bits as a plain number.
 pub fn number_of<C: Check>(bytes: &[u8], n: usize) -> u16
     ensures value { result ≡ C.meaning (take n (bits bytes.now)) }
-    ensures below { result < 2 ^ C.width }
+    ensures below { result < 2 ^ C.W }
 {
     C::of(bytes, n).number()
 }

@@ -47,7 +47,7 @@ impl<C: Check> AnyUnit<C> {
     }
 
     pub(crate) fn check(&self) -> Result<UnitResult, Lack>
-        ensures { Says result (check_said C.Check.width (Some self.now)) }
+        ensures { Says result (check_said C.Check.W (Some self.now)) }
     {
         match self {
             AnyUnit::Bench(unit) => Ok(done(unit.check::<C>())),
@@ -57,7 +57,7 @@ impl<C: Check> AnyUnit<C> {
 
     // Closes the box for good.
     pub(crate) fn close(&mut self) -> Result<UnitResult, Lack>
-        ensures after { Some self.new ≡ in_box C.Check.width (Some self.old) }
+        ensures after { Some self.new ≡ in_box C.Check.W (Some self.old) }
         ensures answer { Says result (box_said (Some self.old)) }
     {
         match self {

@@ -13,8 +13,8 @@ use std::array;
 
 // Does what a line asks of the unit in a place.
 fn call<C: Check>(slot: &mut Option<AnyUnit<C>>, line: &UnitLine) -> Result<UnitResult, Lack>
-    ensures after { slot.new ≡ slot_after C.Check.width (asked_of line.now) slot.old }
-    ensures answer { Says result (slot_said C.Check.width (asked_of line.now) slot.old) }
+    ensures after { slot.new ≡ slot_after C.Check.W (asked_of line.now) slot.old }
+    ensures answer { Says result (slot_said C.Check.W (asked_of line.now) slot.old) }
 {
     let unit = slot.as_mut().ok_or(Lack::NoUnit);
     match line {
@@ -40,8 +40,8 @@ impl<C: Check> Desk<C> {
     }
 
     fn call(&mut self, label: Label, line: &UnitLine) -> Result<UnitResult, Lack>
-        ensures after { self.new ≡ desk_after C.Check.width self.old label.place (asked_of line.now) }
-        ensures answer { Says result (desk_said C.Check.width self.old label.place (asked_of line.now)) }
+        ensures after { self.new ≡ desk_after C.Check.W self.old label.place (asked_of line.now) }
+        ensures answer { Says result (desk_said C.Check.W self.old label.place (asked_of line.now)) }
     {
         call(&mut self.slots[label.place as usize], line)
     }

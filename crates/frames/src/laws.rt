@@ -18,8 +18,8 @@ pub fn read_back<C: Check>(fields: &Fields, frame: &mut [u8]) -> Result<Option<H
 
 // A frame that is changed within W consecutive bits is read as it was sent, if only its preamble changed, or as nothing.
 pub fn damage_shows<C: Check>()
-    ensures bits { DamageShows C.Check.width C.meaning }
-    ensures pattern { PatternShows C.Check.width C.meaning }
+    ensures bits { DamageShows C.Check.W C.meaning }
+    ensures pattern { PatternShows C.Check.W C.meaning }
 {}
 
 // The worked cases of control bits, bit counts and checks hold by the definitions.

@@ -36,7 +36,7 @@ fn put_covered(fields: &Fields, frame: &mut [u8]) -> usize
 // The frame's bytes, spare bits 0; later bytes stay. The answer is the bit count.
 pub fn pack<C: Check>(fields: &Fields, frame: &mut [u8]) -> Result<usize, Refusal>
     ensures sound { Valid (width_of fields.now.address.wide) (packet_of fields.now) }
-    ensures packed { Packed C.Check.width C.meaning (packet_of fields.now) frame.old result frame.new }
+    ensures packed { Packed C.Check.W C.meaning (packet_of fields.now) frame.old result frame.new }
 {
     known_fields(fields);
     if frame.len() < 42 {
@@ -45,7 +45,7 @@ pub fn pack<C: Check>(fields: &Fields, frame: &mut [u8]) -> Result<usize, Refusa
     known_bytes(frame);
     let end = put_covered(fields, frame);
     let check = check_before::<C>(frame, end);
-    let width = C::size();
+    let width = C::W;
     put_bits(frame, end, check, width);
     put_bits(frame, end + width, 0, 7);
     Ok(end + width)

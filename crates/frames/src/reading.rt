@@ -68,10 +68,10 @@ fn fields_at(frame: &[u8], layout: Layout) -> Fields
 // What that many bits say: nothing unless bit count and check are right.
 fn heard<C: Check>(frame: &[u8], count: usize, wide: AddressWidth) -> Option<Heard>
     requires { count ≤ 8 * length frame.now }
-    ensures value { heard_packet result ≡ reading C.Check.width C.meaning (width_of wide) (take count (bits frame.now)) }
+    ensures value { heard_packet result ≡ reading C.Check.W C.meaning (width_of wide) (take count (bits frame.now)) }
     ensures check { Checked C.meaning result }
 {
-    let size = C::size();
+    let size = C::W;
     let layout = layout_of(frame, count, wide, size)?;
     let end = layout.check();
     let check = get_bits(frame, end, size);
@@ -90,8 +90,8 @@ pub fn read<C: Check>(
     count: usize,
     wide: AddressWidth,
 ) -> Result<Option<Heard>, Refusal>
-    ensures value { Reads C.Check.width C.meaning (width_of wide) frame.now count result }
-    ensures exact { Exact C.Check.width C.meaning (width_of wide) frame.now count result }
+    ensures value { Reads C.Check.W C.meaning (width_of wide) frame.now count result }
+    ensures exact { Exact C.Check.W C.meaning (width_of wide) frame.now count result }
 {
     if !holds(frame, count) {
         return Err(Refusal::FrameBytes);

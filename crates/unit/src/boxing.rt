@@ -26,7 +26,7 @@ impl Memories {
 impl<C: Check> Boxed<C> {
     // Boxes a bench unit, which uses it up. A unit with a fault can be boxed, but refuses every call from then on.
     pub fn new(bench: Bench) -> Boxed<C>
-        ensures { result.state ≡ boxed C.Check.width bench.registers }
+        ensures { result.state ≡ boxed C.Check.W bench.registers }
     {
         let fault = bench.fault::<C>();
         let registers = bench.registers;

@@ -121,9 +121,9 @@ impl<C: Check> Boxed<C> {
     // back, 0 for none, as the radio's calls have it (docs/HEARING.md); it stands in the buffer.
     #[tactic(auto, unfolding(frames::specs::Octets::octets))]
     pub fn hear(&mut self, frame: &[u8], count: usize, buffer: &mut [u8]) -> Result<usize, Refusal>
-        ensures answer { result ≡ hear_answer C.Check.width C.meaning self.old.state frame.now count (length buffer.old) }
-        ensures state { self.new.state ≡ hear_after C.Check.width C.meaning self.old.state frame.now count (length buffer.old) }
-        ensures buffer { buffer.new ≡ hear_buffer C.Check.width C.meaning self.old.state frame.now count buffer.old }
+        ensures answer { result ≡ hear_answer C.Check.W C.meaning self.old.state frame.now count (length buffer.old) }
+        ensures state { self.new.state ≡ hear_after C.Check.W C.meaning self.old.state frame.now count (length buffer.old) }
+        ensures buffer { buffer.new ≡ hear_buffer C.Check.W C.meaning self.old.state frame.now count buffer.old }
     {
         self.state.ensure_sound()?;
         ensure_frame_fits(buffer)?;

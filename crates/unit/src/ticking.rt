@@ -45,8 +45,8 @@ impl State {
 #[tactic(auto, unfolding(frames::specs::Octets::octets))]
 pub(crate) fn put_frame<C: Check>(fields: Option<Fields>, buffer: &mut [u8]) -> usize
     requires { 42 ≤ length buffer.old }
-    ensures answer { result ≡ length (bits_of C.Check.width C.meaning (option_map packet_of fields)) }
-    ensures buffer { buffer.new ≡ buffer_after (bits_of C.Check.width C.meaning (option_map packet_of fields)) buffer.old }
+    ensures answer { result ≡ length (bits_of C.Check.W C.meaning (option_map packet_of fields)) }
+    ensures buffer { buffer.new ≡ buffer_after (bits_of C.Check.W C.meaning (option_map packet_of fields)) buffer.old }
 {
     let Some(fields) = fields else {
         return 0;
@@ -59,9 +59,9 @@ impl<C: Check> Boxed<C> {
     // One tick of 10 µs. The answer is the bit count of the frame that is sent, 0 for none, as the radio's calls have it
     // (docs/MODES.md); it stands in the buffer.
     pub fn tick(&mut self, buffer: &mut [u8]) -> Result<usize, Refusal>
-        ensures answer { result ≡ tick_answer C.Check.width C.meaning self.old.state (length buffer.old) }
+        ensures answer { result ≡ tick_answer C.Check.W C.meaning self.old.state (length buffer.old) }
         ensures state { self.new.state ≡ tick_after self.old.state (length buffer.old) }
-        ensures buffer { buffer.new ≡ tick_buffer C.Check.width C.meaning self.old.state buffer.old }
+        ensures buffer { buffer.new ≡ tick_buffer C.Check.W C.meaning self.old.state buffer.old }
     {
         self.state.ensure_sound()?;
         ensure_frame_fits(buffer)?;

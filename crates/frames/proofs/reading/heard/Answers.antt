@@ -22,46 +22,46 @@ returns-in_err-layout-clause-value g c =
     let b = bits c.args.frame.now in
     let le : c.args.count ≤ length b = omega (arith, length_bits c.args.frame.now) in
     ap heard_packet c.from_residual.ensures
-    ∙ heard_none b c.args.count le g.C.Check.meaning g.C.Check.width g.met.C.Check.below (width_of c.args.wide) c.size-size.result c.size-size.ensures
+    ∙ heard_none b c.args.count le g.C.Check.meaning g.C.Check.W g.met.C.Check.below (width_of c.args.wide) c.W-size.result c.W-size.ensures
     c.in_err-layout.ensures.value
 
 pub returns-then-check_before-check-clause-value : goal.returns-then-check_before-check-clause-value
 returns-then-check_before-check-clause-value g c =
     let f = g.C.Check.meaning in
-    let w : ℕ = g.C.Check.width in
+    let w : ℕ = g.C.Check.W in
     let b = bits c.args.frame.now in
     let width = width_of c.args.wide in
     let le : c.args.count ≤ length b = omega (arith, length_bits c.args.frame.now) in
     let len = c.in_ok-layout.layout.len in
     let places = c.in_ok-layout.ensures.places in
     let at : c.check-end.result ≡ 8 + 8 * width + 9 + 8 * len = omega (arith, c.check-end.ensures.value, ap width_of places.0) in
-    let r = right f w c.size-size.result width len _ _ _ b c.size-size.ensures at c.check_before.ensures c.get_bits-check.ensures.value in
-    heard_wrong b c.args.count le f w g.met.C.Check.below width c.size-size.result c.size-size.ensures len
+    let r = right f w c.W-size.result width len _ _ _ b c.W-size.ensures at c.check_before.ensures c.get_bits-check.ensures.value in
+    heard_wrong b c.args.count le f w g.met.C.Check.below width c.W-size.result c.W-size.ensures len
     (eqb c.check_before.result c.get_bits-check.result) c.in_ok-layout.ensures.value places.1 r
     (ne_eqb c.check_before.result c.get_bits-check.result c.if-check_before-check.true)
 
 pub returns : goal.returns
 returns g c =
     let f = g.C.Check.meaning in
-    let w : ℕ = g.C.Check.width in
+    let w : ℕ = g.C.Check.W in
     let below = g.met.C.Check.below in
     let b = bits c.args.frame.now in
     let n = c.args.count in
     let width = width_of c.args.wide in
     let le : n ≤ length b = omega (arith, length_bits c.args.frame.now) in
     let len = c.in_ok-layout.layout.len in
-    let size = c.size-size.result in
+    let size = c.W-size.result in
     let places = c.in_ok-layout.ensures.places in
     let at : c.check-end.result ≡ 8 + 8 * width + 9 + 8 * len = omega (arith, c.check-end.ensures.value, ap width_of places.0) in
     let own = c.check_before.result in
     let said = c.get_bits-check.result in
-    let r = right f w size width len _ own said b c.size-size.ensures at c.check_before.ensures c.get_bits-check.ensures.value in
+    let r = right f w size width len _ own said b c.W-size.ensures at c.check_before.ensures c.get_bits-check.ensures.value in
     let t = eq-eqb own said c.if-check_before-check.false in
     let s = packet_of c.fields_at.result in
     let is = c.fields_at.ensures ∙ ap (λ (v : ℕ). fields_at v len b) (ap width_of places.0) in
     record {
-      value = heard_some b n le f w below width size c.size-size.ensures len (eqb own said) c.in_ok-layout.ensures.value places.1 r t s is;
+      value = heard_some b n le f w below width size c.W-size.ensures len (eqb own said) c.in_ok-layout.ensures.value places.1 r t s is;
       check =
-          heard_check b n le f w below width size c.size-size.ensures len (eqb own said) c.in_ok-layout.ensures.value places.1 r t s is said
+          heard_check b n le f w below width size c.W-size.ensures len (eqb own said) c.in_ok-layout.ensures.value places.1 r t s is said
           (c.get_bits-check.ensures.value ∙ ap (λ (e : ℕ). number (take size (drop e b))) at);
     }

@@ -6,5 +6,5 @@ use Rattle.frames.proofs.reading.read.Goals as goal
 
 pub returns-clause-exact : goal.returns-clause-exact
 returns-clause-exact g c =
-    exactly g.C.Check.meaning g.C.Check.width g.met.C.Check.below (width_of c.args.wide) (take c.args.count (bits c.args.frame.now))
+    exactly g.C.Check.meaning g.C.Check.W g.met.C.Check.below (width_of c.args.wide) (take c.args.count (bits c.args.frame.now))
     (heard_packet c.heard.result) c.heard.ensures.value

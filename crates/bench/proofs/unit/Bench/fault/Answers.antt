@@ -5,5 +5,5 @@ use Rattle.bench.proofs.unit.Bench.fault.Goals as goal
 
 pub returns : goal.returns
 returns g c =
-    let e = c.lowest_fault.ensures ∙ ap (λ (n : ℕ). fault_of n c.args.self.now.registers) c.size.ensures in
-    record { value = e; law = lowest g.C.Check.width c.args.self.now.registers c.lowest_fault.result e }
+    let e = c.lowest_fault.ensures ∙ ap (λ (n : ℕ). fault_of n c.args.self.now.registers) c.W.ensures in
+    record { value = e; law = lowest g.C.Check.W c.args.self.now.registers c.lowest_fault.result e }

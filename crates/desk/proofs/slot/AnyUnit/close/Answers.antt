@@ -6,5 +6,5 @@ use Rattle.desk.proofs.slot.AnyUnit.close.Goals as goal
 
 pub returns-in-Bench-clause-after : goal.returns-in-Bench-clause-after
 returns-in-Bench-clause-after g c =
-    ap (λ s. Some (Boxed (record { state = s; kind = record {} }))) (c.new-in-Bench.ensures ∙ ap (λ b. boxed g.C.Check.width b.registers) c.replace-unit.ensures.value)
-    ∙ sym (ap (λ u. in_box g.C.Check.width (Some u)) c.in-Bench.is)
+    ap (λ s. Some (Boxed (record { state = s; kind = record {} }))) (c.new-in-Bench.ensures ∙ ap (λ b. boxed g.C.Check.W b.registers) c.replace-unit.ensures.value)
+    ∙ sym (ap (λ u. in_box g.C.Check.W (Some u)) c.in-Bench.is)
