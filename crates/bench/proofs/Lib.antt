@@ -1,4 +1,3 @@
-pub mod Walk
 pub mod Loads
 pub mod Lowest
 pub mod Pipes
