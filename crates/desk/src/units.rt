@@ -43,7 +43,7 @@ impl<C: Check> Desk<C> {
         ensures after { self.new ≡ desk_after C.Check.W self.old label.place (asked_of line.now) }
         ensures answer { Says result (desk_said C.Check.W self.old label.place (asked_of line.now)) }
     {
-        call(&mut self.slots[label.place as usize], line)
+        call(&mut self.slots[usize::from(label.place)], line)
     }
 }
 

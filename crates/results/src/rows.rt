@@ -16,10 +16,9 @@ use words::{Apart, Joined, Reversed};
 fn begins_with_one(low_first: &[u8]) -> bool
     ensures { result ≡ slice_index_or (bits (reverse low_first.now)) 0 false }
 {
-    match low_first.split_last() {
-        Some((high, _)) => bit_at(&[*high], 0),
-        None => false,
-    }
+    low_first
+        .last()
+        .is_some_and(|high| bit_at(&[*high], 0))
 }
 
 fn preamble(first: bool) -> &'static str

@@ -32,23 +32,18 @@ mod tests {
 
     // The frame's bytes, and behind them what was in the buffer.
     fn is_packed(case: &Framed, buffer: &[u8]) -> bool {
-        for (i, b) in buffer.iter().enumerate() {
-            let wanted = case.frame.get(i).copied().unwrap_or(0xA5);
-            if *b != wanted {
-                return false;
-            }
-        }
-        true
+        buffer
+            .strip_prefix(case.frame)
+            .is_some_and(|rest| rest.iter().all(|b| *b == 0xA5))
     }
 
     fn is_heard(case: &Framed, heard: Option<Heard>) -> bool {
-        let Some(heard) = heard else {
-            return false;
-        };
-        heard.fields.address.bytes() == case.address
-            && heard.fields.pid.number() == case.pid
-            && heard.fields.no_ack == case.no_ack
-            && heard.fields.payload.bytes() == case.payload
+        heard.is_some_and(|heard| {
+            heard.fields.address.bytes() == case.address
+                && heard.fields.pid.number() == case.pid
+                && heard.fields.no_ack == case.no_ack
+                && heard.fields.payload.bytes() == case.payload
+        })
     }
 
     fn frames_of<C: Check>(rt: &impl Abort, wide: u8) -> Result<(), Fail> {
