@@ -58,11 +58,9 @@ fn steps<P: Parameters>(register: u16, byte: u8, count: usize) -> u16
     requires { count ≤ 8 }
     ensures { result ≡ run P.WIDTH P.POLYNOMIAL register (take count (word 8 byte)) }
 {
-    let mut register = register;
-    for k in 0..count {
-        register = step::<P>(register, byte >> (7 - k) & 1 == 1);
-    }
-    register
+    (0..count).fold(register, |register, k| {
+        step::<P>(register, byte >> (7 - k) & 1 == 1)
+    })
 }
 
 // The register after the first n bits, after all if there are fewer. Slices have no iterator over bits, so the bytes are
