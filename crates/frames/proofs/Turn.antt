@@ -80,6 +80,17 @@ turn_more b ys count start i h e l =
           ∙ left_out d z ys start i h (inr k)
     ]
 
+flip_short : (xs ys : List Bool) (n : ℕ) → length xs ≤ n → flip xs (take n ys) ≡ flip xs ys
+unfolding flip
+flip_short [] ys n h = flip_nil (take n ys) ∙ sym (flip_nil ys)
+flip_short (x ∷ xs) ys zero h = absurd (omega (arith, h))
+flip_short (x ∷ xs) [] (suc n) h = refl
+flip_short (x ∷ xs) (y ∷ ys) (suc n) h = ap (λ (u : List Bool). differs x y ∷ u) (flip_short xs ys n (omega (arith, h)))
+
+-- what of a pattern has no place in the string changes nothing
+pub all_turned : (d ys : List Bool) (start n : ℕ) → length d ≤ start + n → changed d start (take n ys) ≡ changed d start ys
+all_turned d ys start n h = ap (λ (u : List Bool). take start d ++ u) (flip_short (drop start d) ys n (omega (arith, h, length-drop start d)))
+
 pub nothing_yet : (b : List Bool) (count start : ℕ) → b ≡ changed (take count b) start [] ++ drop count b
 nothing_yet b count start =
     sym (ap (λ (u : List Bool). u ++ drop count b)

@@ -1,5 +1,6 @@
 // Numbers and bytes in the bits of a buffer. The loops over a number's bits go by their places: neither a number nor a
-// part of a slice has an iterator over its bits.
+// part of a slice has an iterator over its bits. Each call takes its place `at`, and there is no cursor that keeps one:
+// the callers jump to the places that a frame's layout gives.
 ghost use Rattle.std.specs.Prelude.{◌≡◌, ℕ, ◌+◌, ◌-◌, ◌*◌, ◌^◌, ◌<◌, ◌≤◌, false, length, take, drop, slice_index, slice_set};
 ghost use Rattle.std.proofs.Math.Seq.{paste};
 ghost use Rattle.checks.specs.Bits.{word, bits};
@@ -67,5 +68,6 @@ pub(crate) fn get_octets(buf: &[u8], at: usize, out: &mut [u8])
 pub(crate) fn known_bytes(buf: &[u8])
     ensures { (i : ℕ) → slice_index buf.now i < 256 }
 {
+    // a call that is given the slice, after which the proof knows what its type keeps
     let _first = buf.first();
 }

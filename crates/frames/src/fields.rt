@@ -9,8 +9,9 @@ pub enum AddressWidth {
     Five = 5,
 }
 
-// An address of 3 to 5 bytes, low byte first, at the front of `held`: fixed memory, since the engine allocates nothing.
-#[derive(Clone, Copy)]
+// An address of 3 to 5 bytes, low byte first, at the front of `held`: fixed memory, since the engine allocates nothing. No
+// ArrayVec of the library, which allocates nothing either: it is not Copy.
+#[derive(Clone, Copy, Debug)]
 pub struct Address {
     pub(crate) held: [u8; 5],
     pub(crate) wide: AddressWidth,
@@ -25,20 +26,24 @@ pub enum Pid {
     Three = 3,
 }
 
-// A number that no address width or packet identity has.
+// A number that is none of the values of a type: no address width's, no packet identity's, or, in the console, no unit's
+// label.
 #[derive(Clone, Copy, Debug, PartialEq, Eq)]
 pub struct OutOfRange;
 
-// 0 to 32 bytes, at the front of `held`: fixed memory, since the engine allocates nothing.
-#[derive(Clone, Copy)]
+// How many bytes a payload has at most; clauses say the number.
+pub(crate) const MOST: usize = 32;
+
+// 0 to 32 bytes, at the front of `held`: fixed memory and no ArrayVec, as for an address.
+#[derive(Clone, Copy, Debug)]
 pub struct Payload {
-    pub(crate) held: [u8; 32],
+    pub(crate) held: [u8; MOST],
     pub(crate) len: usize,
     ghost fits: { len ≤ 32 },
 }
 
 // What a frame carries; preamble, length and check follow from it.
-#[derive(Clone, Copy)]
+#[derive(Clone, Copy, Debug)]
 pub struct Fields {
     pub address: Address,
     pub pid: Pid,
@@ -47,7 +52,7 @@ pub struct Fields {
 }
 
 // A frame that was read: its fields and its check, which is the one of those fields.
-#[derive(Clone, Copy)]
+#[derive(Clone, Copy, Debug)]
 pub struct Heard {
     pub fields: Fields,
     pub check: u16,
@@ -57,5 +62,5 @@ pub struct Heard {
 #[derive(Clone, Copy, Debug, PartialEq, Eq)]
 pub enum Refusal {
     // a frame buffer under 42 bytes, or bits beyond the frame's bytes
-    FrameBytes,
+    FrameBytes = 18,
 }

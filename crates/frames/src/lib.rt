@@ -9,6 +9,7 @@ mod layout;
 mod making;
 mod packing;
 mod reading;
+mod refusal;
 
 pub use damage::change;
 pub use fields::{Address, AddressWidth, Fields, Heard, OutOfRange, Payload, Pid, Refusal};

@@ -4,12 +4,10 @@ ghost use Rattle.std.specs.Str.{bytes_eq};
 ghost use Rattle.std.specs.Cmp.{on_equiv, on_per, partial_equiv_from_equiv};
 ghost use Rattle.std.specs.Cmp.Lexicographic.{nat_list_eq_equiv};
 ghost use Rattle.frames.specs.Packet.{Valid};
-ghost use Rattle.frames.specs.Calls.{width_of, pid_number, next_pid, packet_of, address_bytes, payload_bytes, payload_of, refusal_number, refusal_reason, WidthOrNone, PidOrNone};
+ghost use Rattle.frames.specs.Calls.{width_of, pid_number, next_pid, packet_of, address_bytes, payload_bytes, payload_of, WidthOrNone, PidOrNone};
 
 use crate::bits::known_bytes;
-use crate::fields::{Address, AddressWidth, Fields, OutOfRange, Payload, Pid, Refusal};
-use std::error::Error;
-use std::fmt;
+use crate::fields::{Address, AddressWidth, Fields, MOST, OutOfRange, Payload, Pid};
 
 impl TryFrom<usize> for AddressWidth {
     type Error = OutOfRange;
@@ -125,16 +123,17 @@ impl Pid {
 }
 
 impl Payload {
-    // A payload of these bytes; there are at most 32. No TryFrom: an error would say no more than None does.
+    // A payload of these bytes; there are at most 32. No TryFrom: an error would say no more than None does. The limit is
+    // tested and not left to `get_mut(0..len)?`, which would hide it.
     pub fn new(given: &[u8]) -> Option<Payload>
         ensures bytes { MatchOption result (32 < length given.now) (λ p. payload_bytes p ≡ given.now) }
         ensures whole { result ≡ (if nat_le (length given.now) 32 then Some (payload_of given.now) else None) }
     {
         let len = given.len();
-        if len > 32 {
+        if len > MOST {
             return None;
         }
-        let mut held = [0; 32];
+        let mut held = [0; MOST];
         held[0..len].copy_from_slice(given);
         Some(Payload { held, len })
     }
@@ -144,7 +143,7 @@ impl Payload {
         ensures { payload_bytes result ≡ [] }
     {
         Payload {
-            held: [0; 32],
+            held: [0; MOST],
             len: 0,
         }
     }
@@ -157,33 +156,11 @@ impl Payload {
     }
 }
 
-impl Refusal {
-    // The number under which a refusal is reported.
-    pub fn number(self) -> u8
-        ensures { result ≡ refusal_number self }
-    {
-        match self {
-            Refusal::FrameBytes => 18,
-        }
-    }
-}
-
-impl fmt::Display for Refusal {
-    ghost output = { λ refusal. Some (refusal_reason refusal) };
-
-    fn fmt<W: fmt::Write>(&self, f: &mut fmt::Formatter<W>) -> fmt::Result {
-        f.write_str(match self {
-            Refusal::FrameBytes => "bits beyond the frame's bytes",
-        })
-    }
-}
-
-impl Error for Refusal {}
-
 // Nothing is done: the contract says what the types of the fields keep.
 pub(crate) fn known_fields(fields: &Fields)
     ensures { Valid (width_of fields.now.address.wide) (packet_of fields.now) }
 {
+    // what these calls ensure or are given is all the proof
     let _pid = fields.pid.number();
     known_bytes(&fields.address.held[0..fields.address.wide.bytes()]);
     known_bytes(&fields.payload.held[0..fields.payload.len]);

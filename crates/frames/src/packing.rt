@@ -10,6 +10,9 @@ use crate::layout::{Layout, check_before};
 use crate::making::known_fields;
 use checks::{Check, bit_at};
 
+// How many bytes the longest frame fills; clauses say the number.
+const LONGEST: usize = 42;
+
 // All but the check is written at the front; the answer is how many bits that are.
 fn put_covered(fields: &Fields, frame: &mut [u8]) -> usize
     requires { 42 ≤ length frame.old }
@@ -39,7 +42,7 @@ pub fn pack<C: Check>(fields: &Fields, frame: &mut [u8]) -> Result<usize, Refusa
     ensures packed { Packed C.Check.W C.meaning (packet_of fields.now) frame.old result frame.new }
 {
     known_fields(fields);
-    if frame.len() < 42 {
+    if frame.len() < LONGEST {
         return Err(Refusal::FrameBytes);
     }
     known_bytes(frame);

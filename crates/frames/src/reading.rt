@@ -4,9 +4,11 @@ ghost use Rattle.frames.specs.Packet.{length_field, count_fits, fields_at, readi
 ghost use Rattle.frames.specs.Calls.{width_of, packet_of, heard_packet, Checked, Reads, Exact};
 
 use crate::bits::{get_bits, get_octets};
-use crate::fields::{Address, AddressWidth, Fields, Heard, Payload, Pid, Refusal};
+use crate::fields::{Address, AddressWidth, Fields, Heard, MOST, Payload, Pid, Refusal};
 use crate::layout::{Layout, check_before};
 use checks::{Check, bit_at};
+
+// `frame`, `count` and `wide` are the public call's own parameters, which the two private calls below take in their turn.
 
 // Whether bytes hold that many bits.
 fn holds(bytes: &[u8], count: usize) -> bool
@@ -26,15 +28,11 @@ fn layout_of(frame: &[u8], count: usize, wide: AddressWidth, size: usize) -> Opt
         return None;
     }
     let len = usize::from(get_bits(frame, control, 6));
-    if len > 32 {
+    if len > MOST {
         return None;
     }
     let layout = Layout { wide, len };
-    if layout.check() + size == count {
-        Some(layout)
-    } else {
-        None
-    }
+    (layout.check() + size == count).then_some(layout)
 }
 
 // What stands in the places of the fields.
@@ -49,7 +47,7 @@ fn fields_at(frame: &[u8], layout: Layout) -> Fields
     high_first.reverse();
     // two bits are a number below 4
     let pid = Pid::try_from(get_bits(frame, control + 6, 2) as u8).unwrap();
-    let mut payload = [0; 32];
+    let mut payload = [0; MOST];
     get_octets(frame, layout.payload(), &mut payload[0..layout.len]);
     Fields {
         address: Address {
