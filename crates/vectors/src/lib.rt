@@ -21,12 +21,12 @@ mod tests {
         }
     }
 
-    fn fields_of(case: &Framed) -> Option<Fields> {
-        Some(Fields {
-            address: Address::new(case.address)?,
-            pid: Pid::try_from(case.pid).ok()?,
+    fn fields_of(case: &Framed) -> Result<Fields, Fail> {
+        Ok(Fields {
+            address: Address::new(case.address).ok_or("no address has so many bytes")?,
+            pid: Pid::try_from(case.pid)?,
             no_ack: case.no_ack,
-            payload: Payload::new(case.payload)?,
+            payload: Payload::new(case.payload).ok_or("no payload has so many bytes")?,
         })
     }
 
@@ -47,20 +47,17 @@ mod tests {
     }
 
     fn frames_of<C: Check>(rt: &impl Abort, wide: u8) -> Result<(), Fail> {
-        for case in FRAMED.iter() {
-            if case.wide != wide {
-                continue;
-            }
-            let fields = fields_of(case).ok_or(1u8)?;
+        for case in FRAMED.iter().filter(|case| case.wide == wide) {
+            let fields = fields_of(case)?;
             let mut buffer = [0xA5; 48];
-            let bits = frames::pack::<C>(&fields, &mut buffer).ok().ok_or(2u8)?;
+            let bits = frames::pack::<C>(&fields, &mut buffer)?;
             assert_eq!(rt; bits, case.bits);
             assert!(rt; is_packed(case, &buffer));
-            let heard = frames::read::<C>(&buffer, bits, fields.address.width());
-            assert!(rt; is_heard(case, heard.ok().ok_or(2u8)?));
+            let heard = frames::read::<C>(&buffer, bits, fields.address.width())?;
+            assert!(rt; is_heard(case, heard));
             frames::change(&mut buffer, bits, case.start, case.pattern);
-            let damaged = frames::read::<C>(&buffer, bits, fields.address.width());
-            assert!(rt; damaged.ok().ok_or(2u8)?.is_none());
+            let damaged = frames::read::<C>(&buffer, bits, fields.address.width())?;
+            assert!(rt; damaged.is_none());
         }
         Ok(())
     }
@@ -77,7 +74,7 @@ mod tests {
 
     #[test]
     fn refused(rt: HostRuntime) -> Result<(), Fail> {
-        let fields = fields_of(&FRAMED[0]).ok_or(1u8)?;
+        let fields = fields_of(&FRAMED[0])?;
         let mut short = [0xA5; 41];
         assert!(rt; frames::pack::<Crc8>(&fields, &mut short).is_err());
         assert!(rt; short == [0xA5; 41]);
