@@ -2,10 +2,11 @@
 use Rattle.std.proofs.Common.{◌≡◌, ℕ, ◌+◌, ◌*◌, ◌^◌, ◌<◌, ◌≤◌, Bool, true, false, cond, ◌&&◌, eqb, leb, List, ◌++◌, reverse, length, get_or, take, drop, Some, None, Option, sym, ap, ◌∙◌, ap₂, arith}
 use Rattle.std.proofs.lemmas.List.{length-drop, length-take-le, take-append-drop, drop-append-le, take-append-le, get_or_append_left, drop-take}
 use Rattle.std.proofs.lemmas.Bool.{le-leb, eq-eqb, ne_eqb, lt-leb, and_from, and_left, and_right}
+use Rattle.std.proofs.lemmas.Option.{cond_some}
 use Rattle.frames.specs.Octets.{number, octets}
 use Rattle.frames.specs.Packet.{Packet, covered, length_field, count_fits, check_right, fields_at, reading}
 use Rattle.frames.proofs.Octets.{octets_front, length_octets}
-use Rattle.frames.proofs.Parse.{same, some_from, none_from, reads_none, reads_some, check_read}
+use Rattle.frames.proofs.Parse.{same, none_from, reads_none, reads_some, check_read}
 
 module _ (b : List Bool) (n : ℕ) (le : n ≤ length b) where
   front : length (take n b) ≡ n
@@ -70,7 +71,7 @@ module _ (b : List Bool) (n : ℕ) (le : n ≤ length b) where
         (count : n ≡ 8 + 8 * width + 9 + 8 * len + size)
         (checks : test ≡ eqb (f (take (8 * width + 9 + 8 * len) (drop 8 b))) (number (take w (drop (8 + 8 * width + 9 + 8 * len) b)))) where
       told_len : len ≡ length_field width (take n b)
-      told_len = sym (some_from (count_fits size width (take n b)) (length_field width (take n b)) len (sym h)).1
+      told_len = sym (cond_some (count_fits size width (take n b)) (length_field width (take n b)) len (sym h)).1
 
       told_right : test ≡ check_right w f width (take n b)
       told_right = checks ∙ right_inside f w width len told_len (omega arith)
@@ -83,7 +84,7 @@ module _ (b : List Bool) (n : ℕ) (le : n ≤ length b) where
       heard_some t s e =
           let c : count_fits w width (take n b) ≡ true =
           ap (λ (z : ℕ). count_fits z width (take n b)) (sym is)
-          ∙ (some_from (count_fits size width (take n b)) (length_field width (take n b)) len (sym h)).0 in
+          ∙ (cond_some (count_fits size width (take n b)) (length_field width (take n b)) len (sym h)).0 in
           ap Some (e ∙ picked_inside width len (omega arith) ∙ ap (λ (l : ℕ). fields_at width l (take n b)) told_len)
           ∙ sym (reads_some f w below width (take n b) c (sym told_right ∙ t))
 

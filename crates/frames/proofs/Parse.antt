@@ -2,6 +2,7 @@
 use Rattle.std.proofs.Common.{◌≡◌, ℕ, ◌+◌, ◌-◌, ◌*◌, ◌^◌, ◌<◌, ◌≤◌, Bool, true, false, cond, ◌&&◌, List, [], ◌∷◌, ◌++◌, reverse, length, get_or, take, drop, Some, None, Option, sym, refl, ap, ◌∙◌, subst, ap₂, inl, inr, add-zero, arith, length-append}
 use Rattle.std.proofs.lemmas.List.{append_assoc, length-reverse, reverse-reverse, length-drop, length-take, length-take-le, get_or-drop, get_or-reverse, get_or_past, take-append-drop, drop-drop, drop_more, take_at, drop_at}
 use Rattle.std.proofs.lemmas.Bool.{leb-true, eqb-true, le-leb, eq-eqb, and_parts, and_from, cases_lt, cond-true, cond-false}
+use Rattle.std.proofs.lemmas.Option.{cond_some}
 use Rattle.checks.specs.Bits.{word, bits}
 use Rattle.checks.specs.Places.{length_word, length_bits}
 use Rattle.frames.specs.Octets.{number, octets}
@@ -29,10 +30,6 @@ bytes_reverse xs h i =
       | inl l ↦ subst (λ (v : ℕ). v < 256) (sym (get_or-reverse xs i 0 l)) (h (length xs - 1 - i))
       | inr l ↦ subst (λ (v : ℕ). v < 256) (sym (get_or_past (reverse xs) i 0 (omega (arith, length-reverse xs)))) (omega arith)
     ]
-
-pub some_from : {X : Type 0} (b : Bool) (x y : X) → cond b (Some x) None ≡ Some y → (b ≡ true) × (x ≡ y)
-some_from true x y e = (refl, cc)
-some_from false x y e = (cc, cc)
 
 pub none_from : {X : Type 0} (b : Bool) (x : X) → cond b (Some x) None ≡ None → b ≡ false
 none_from true x e = cc
@@ -146,7 +143,7 @@ module _ (f : List Bool → ℕ) (w : ℕ) (below : (s : List Bool) → f s < 2 
   pub reads_only : (s : Packet) → reading w f width xs ≡ Some s → Valid width s × (drop 8 xs ≡ with_check w f s)
   unfolding reading
   reads_only s e =
-      let r = some_from (count_fits w width xs && check_right w f width xs) (fields_read width xs) s e in
+      let r = cond_some (count_fits w width xs && check_right w f width xs) (fields_read width xs) s e in
       let t = and_parts (count_fits w width xs) (check_right w f width xs) r.0 in
       subst (λ (z : Packet). Valid width z × (drop 8 xs ≡ with_check w f z)) r.1 (only t.0 t.1)
 
