@@ -27,7 +27,7 @@ pub enum Pid {
 }
 
 // A number that is none of the values of a type: no address width's, no packet identity's, or, in the console, no unit's
-// label.
+// label. It has no Display: the callers say in their own words what was out of range.
 #[derive(Clone, Copy, Debug, PartialEq, Eq)]
 pub struct OutOfRange;
 

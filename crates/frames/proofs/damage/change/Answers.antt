@@ -31,9 +31,7 @@ at_most start count =
     let n = length-range_with_len start (count - start) in
     (omega (arith, l, m, n), omega (arith, l, m, n))
 
-pub loop-i-init : goal.loop-i-init
-loop-i-init c = nothing_yet (bits c.args.frame.now) c.args.count c.args.start
-
+-- what the loop goes over
 listed :
     (start count : ℕ) {t : Take (Range ℕ)} {e s : Enumerate (Take (Range ℕ))} → t.iter ≡ record { start = start; end = count } → t.n ≡ 16 → e.iter ≡ t → e.count ≡ 0
     → s ≡ e → YieldsList (enumerate_steps (take_steps nat_range_steps)) (λ p. (p.0, p.1)) s (places start count)
@@ -59,6 +57,13 @@ next_place start count n i at h e =
     ap (λ (p : ℕ × ℕ). p.1) is ∙ get_or-take 16 r n at (omega (arith, h, m.0)) ∙ get_or-range_with_len start (count - start) n at (omega (arith, h, m.1)) in
     (omega (arith, h, m.0), omega (arith, h, m.1), rank, place)
 
+tested : (pattern n i : ℕ) → n < 16 → i ≡ n → get_or (word 16 pattern) n false ≡ eqb (bit_and (pattern / 2 ^ (15 - i)) 1) 1
+tested pattern n i h e =
+    bit_of_word 16 pattern n h ∙ sym (ap (λ (v : ℕ). eqb v 1) (and_mask (pattern / 2 ^ (15 - i)) 1) ∙ ap (λ (k : ℕ). bit pattern (15 - k)) e)
+
+pub loop-i-init : goal.loop-i-init
+loop-i-init c = nothing_yet (bits c.args.frame.now) c.args.count c.args.start
+
 pub loop-i-preserved-then-pattern-i-eq1 : goal.loop-i-preserved-then-pattern-i-eq1
 loop-i-preserved-then-pattern-i-eq1 c =
     let b = bits c.args.frame.now in
@@ -70,12 +75,10 @@ loop-i-preserved-then-pattern-i-eq1 c =
     c.into_iter-i-iterator.ensures.into_iter_gives in
     let t = YieldsList-turn from c.loop-i.yielded _ c.loop-i.yielded_by _ _ (c.in-Some.i, c.in-Some.at) c.in-Some.is c.next.ensures.steps in
     let at = next_place start c.args.count n c.in-Some.i c.in-Some.at t.0 t.1 in
-    let x = c.args.pattern / 2 ^ (15 - c.in-Some.i) in
-    let tie : get_or ys n false ≡ eqb (bit_and x 1) 1 =
-    bit_of_word 16 c.args.pattern n at.0 ∙ sym (ap (λ (v : ℕ). eqb v 1) (and_mask x 1) ∙ ap (λ (i : ℕ). bit c.args.pattern (15 - i)) at.2) in
+    let tie = tested c.args.pattern n c.in-Some.i at.0 at.2 in
     let more : length (c.loop-i.yielded ++ ((c.in-Some.i, c.in-Some.at) ∷ [])) ≡ n + 1 = length_push c.loop-i.yielded (c.in-Some.i, c.in-Some.at) in
     c.turn.ensures ∙ ap₂ (λ (u : List Bool) (k : ℕ). set u k (not (get_or u k false))) c.loop-i.invariant at.3
-    ∙ turn_more b ys c.args.count start n (omega (arith, at.0, length_word 16 c.args.pattern)) (tie ∙ eq-eqb (bit_and x 1) 1 c.if-pattern-i-eq1.true) at.1
+    ∙ turn_more b ys c.args.count start n (omega (arith, at.0, length_word 16 c.args.pattern)) (tie ∙ eq-eqb _ 1 c.if-pattern-i-eq1.true) at.1
     ∙ sym (ap (λ (k : ℕ). changed (take c.args.count b) start (take k ys) ++ drop c.args.count b) more)
 
 pub loop-i-preserved : goal.loop-i-preserved
@@ -89,12 +92,10 @@ loop-i-preserved c =
     c.into_iter-i-iterator.ensures.into_iter_gives in
     let t = YieldsList-turn from c.loop-i.yielded _ c.loop-i.yielded_by _ _ (c.in-Some.i, c.in-Some.at) c.in-Some.is c.next.ensures.steps in
     let at = next_place start c.args.count n c.in-Some.i c.in-Some.at t.0 t.1 in
-    let x = c.args.pattern / 2 ^ (15 - c.in-Some.i) in
-    let tie : get_or ys n false ≡ eqb (bit_and x 1) 1 =
-    bit_of_word 16 c.args.pattern n at.0 ∙ sym (ap (λ (v : ℕ). eqb v 1) (and_mask x 1) ∙ ap (λ (i : ℕ). bit c.args.pattern (15 - i)) at.2) in
+    let tie = tested c.args.pattern n c.in-Some.i at.0 at.2 in
     let more : length (c.loop-i.yielded ++ ((c.in-Some.i, c.in-Some.at) ∷ [])) ≡ n + 1 = length_push c.loop-i.yielded (c.in-Some.i, c.in-Some.at) in
     c.loop-i.invariant
-    ∙ left_out (take c.args.count b) (drop c.args.count b) ys start n (omega (arith, at.0, length_word 16 c.args.pattern)) (inl (tie ∙ ne_eqb (bit_and x 1) 1 c.if-pattern-i-eq1.false))
+    ∙ left_out (take c.args.count b) (drop c.args.count b) ys start n (omega (arith, at.0, length_word 16 c.args.pattern)) (inl (tie ∙ ne_eqb _ 1 c.if-pattern-i-eq1.false))
     ∙ sym (ap (λ (k : ℕ). changed (take c.args.count b) start (take k ys) ++ drop c.args.count b) more)
 
 pub returns : goal.returns
