@@ -26,7 +26,7 @@ fn agree_at(places: &[u8], a: u8, b: u8) -> bool
         .all(|&place| stands(a, place) == stands(b, place))
 }
 
-// The first of the data bytes.
+// The first of the data bytes. A write of none is refused, since no register allows it, so the 0 is never stored.
 fn first_byte(data: &[u8]) -> u8
     ensures { result ≡ slice_index_or «data».now 0 0 }
 {
@@ -81,14 +81,13 @@ impl State {
         }
     }
 
-    // A write that reaches STATUS or CONFIG.
+    // A write that is neither read-only nor fixed reaches STATUS or, being the only other one left, CONFIG.
     fn store(&mut self, register: Register, value: u8)
         ensures { self.new ≡ written self.old register value }
     {
-        if register == Register::Status {
-            self.core.flags = self.core.flags.cleared_by(value);
-        } else {
-            self.core.configure(value);
+        match register {
+            Register::Status => self.core.flags = self.core.flags.cleared_by(value),
+            _ => self.core.configure(value),
         }
     }
 
