@@ -1,4 +1,5 @@
-// Host commands on a boxed unit.
+// Host commands on a boxed unit. Each order's function has the three clauses of `command`, of the answer, the state and the buffer: a
+// relation over the three would only hide by its name that they are those of the public call.
 ghost use Rattle.std.specs.Prelude.{◌≡◌, ◌<◌, [], ◌∷◌, length, true, slice_index_or, nat_lt};
 ghost use Rattle.std.specs.List.{list_all};
 ghost use Rattle.registers.specs.Bits.{bit};
@@ -14,7 +15,8 @@ use checks::Check;
 use commands::{Command, Refusal, decode, fifo_status, observe_tx, reply, status_byte};
 use registers::{Register, stands};
 
-// The bits of CONFIG that are fixed by boxing: bit 7, which means nothing, EN_CRC, CRCO and PRIM_RX.
+// The bits of CONFIG that are fixed by boxing: bit 7, which means nothing, EN_CRC, CRCO and PRIM_RX. Their places and no mask, since
+// what is fixed is defined place by place.
 const FIXED_BITS: [u8; 4] = [7, 3, 2, 0];
 
 // Whether two bytes have the same bits at these places.
