@@ -1,9 +1,10 @@
 -- The bits that are fixed by boxing, by their mask.
-use Rattle.std.proofs.Common.{◌≡◌, ℕ, zero, suc, ◌+◌, ◌%◌, ◌<◌, Bool, true, false, cond, ◌&&◌, eqb, sym, refl, ap, ◌∙◌, ⊎_elim, arith}
+use Rattle.std.proofs.Common.{◌≡◌, ℕ, zero, suc, ◌+◌, ◌%◌, ◌<◌, Bool, true, ◌&&◌, eqb, sym, refl, ap, ◌∙◌, arith}
+use Rattle.std.specs.Bool.{beq}
+use Rattle.std.specs.Cmp.{booleans_Decides}
 use Rattle.std.specs.Int.{bit_at}
 use Rattle.std.specs.Int.Bits.{bit_and, bit_xor}
-use Rattle.std.proofs.lemmas.Bool.{cases_eq}
-use Rattle.std.proofs.lemmas.Bool.Decides.{nat_tests}
+use Rattle.std.proofs.lemmas.Bool.Decides.{Decides-below_and}
 use Rattle.std.proofs.lemmas.Nat.{xor_of_8}
 use Rattle.std.proofs.lemmas.Nat.Bits.{bit_at_xor, bit_at-lt}
 use Rattle.registers.specs.Bits.{bit}
@@ -21,31 +22,21 @@ alike_sum (suc zero) (suc (suc y)) h k = absurd (omega (arith, k))
 alike_xor : (a b k : ℕ) → alike (bit k a) (bit k b) ≡ eqb (bit_at (bit_xor a b) k) 0
 alike_xor a b k = alike_sum (bit_at a k) (bit_at b k) (bit_at-lt a k) (bit_at-lt b k) ∙ sym (ap (λ (n : ℕ). eqb n 0) (bit_at_xor a b k))
 
-alike_same : (p q : Bool) → alike p q ≡ true → p ≡ q
-alike_same true true h = refl
-alike_same true false h = absurd (let z : ◌≡◌ {A = ℕ} 0 1 = cc in omega arith)
-alike_same false true h = absurd (let z : ◌≡◌ {A = ℕ} 0 1 = cc in omega arith)
-alike_same false false h = refl
-
--- a test that passes at each number below n passes at r
-every : (ℕ → Bool) → ℕ → Bool
-every f zero = true
-every f (suc n) = cond (f n) (every f n) false
-
-at : (f : ℕ → Bool) (n : ℕ) → every f n ≡ true → (r : ℕ) → r < n → f r ≡ true
-unfolding every
-at f zero t r h = absurd (omega arith)
-at f (suc n) t r h =
-    let here : f n ≡ true = grind (arith, nat_tests) in
-    let rest : every f n ≡ true = grind (arith, nat_tests) in
-    ⊎_elim (λ (e : r ≡ n). ap f e ∙ here) (λ ne. at f n rest r (omega (arith, ne))) (cases_eq r n)
-
 abbrev clear : ℕ → Bool
 clear x = eqb (bit_at x 7) 0 && (eqb (bit_at x 3) 0 && (eqb (bit_at x 2) 0 && (eqb (bit_at x 0) 0 && true)))
 
+-- the mask has just these places: tested at each byte
+alike_at : ℕ → Bool
+alike_at n = beq (clear n) (eqb (bit_and n 0x8D) 0)
+
+below : ℕ → Bool
+below zero = true
+below (suc n) = alike_at n && below n
+
 cleared : (x : ℕ) → x < 256 → clear x ≡ eqb (bit_and x 0x8D) 0
-unfolding every
-cleared x h = alike_same (clear x) (eqb (bit_and x 0x8D) 0) (at (λ n. alike (clear n) (eqb (bit_and n 0x8D) 0)) 256 refl x h)
+unfolding below alike_at
+cleared =
+    (Decides-below_and alike_at (λ n. clear n ≡ eqb (bit_and n 0x8D) 0) below (λ n. booleans_Decides (clear n) (eqb (bit_and n 0x8D) 0)) refl (λ _. refl) 256).0 refl
 
 pub masked : (a b : ℕ) → a < 256 → b < 256 → as_it_stands a b ≡ eqb (bit_and (bit_xor a b) 0x8D) 0
 masked a b h k = rw (alike_xor a b 7, alike_xor a b 3, alike_xor a b 2, alike_xor a b 0) (cleared (bit_xor a b) (xor_of_8 a b h k))
