@@ -1,6 +1,6 @@
 // A frame on the air: the unit that sent it, and how many bits of its bytes it has, from the top. Nothing here has a heap, so the
-// bytes are those of the longest frame.
-#[derive(Clone, Copy)]
+// bytes are those of the longest frame. Frames are not compared: the bytes behind the bits of one say nothing.
+#[derive(Clone, Copy, Debug)]
 pub struct Frame {
     pub from: u8,
     pub count: usize,
@@ -8,7 +8,7 @@ pub struct Frame {
 }
 
 // What becomes of the frame on the air when it is carried.
-#[derive(Clone, Copy)]
+#[derive(Clone, Copy, Debug, PartialEq, Eq)]
 pub enum Fate {
     // nobody hears it
     Lost,

@@ -2,7 +2,8 @@ use crate::air::Frame;
 use std::marker::PhantomData;
 use unit::State;
 
-// The places of the units: the receiver's is 0, those of the senders are 1 to 6, from 1 on without a gap.
+// The places of the units: the receiver's is 0, those of the senders are 1 to 6, from 1 on without a gap. A fixed array, since
+// nothing here has a heap.
 #[derive(Drop)]
 pub struct Places {
     pub at: [Option<State>; 7],

@@ -17,13 +17,14 @@ pub enum Cause {
 }
 
 // Which layer refused.
-#[derive(Clone, Copy)]
+#[derive(Clone, Copy, Debug, PartialEq, Eq)]
 pub enum Layer {
     Unit,
     Cell,
 }
 
-// A refusal by a cell, with the unit that it names: the one that was called, or is at fault; 0 for a carry.
+// A refusal by a cell, with the unit that it names: the one that was called, or is at fault; 0 for a carry (docs/CELL.md). A
+// number and not a place: it is the one that the call gave, which no unit need have.
 #[derive(Clone, Copy)]
 pub struct Refusal {
     pub unit: u8,

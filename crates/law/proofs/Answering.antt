@@ -21,7 +21,7 @@ use Rattle.law.specs.Law.{Payload, Answering, Exchange, Receipts, History, Write
 use Rattle.law.specs.Law.{pid_of, packet_by, check_of, Mistaken, Lawful}
 use Rattle.law.proofs.Terms.{Fits, Like, AllLike}
 use Rattle.law.proofs.Facts.{all_weaker, all_push}
-use Rattle.law.proofs.Inv.{Pending, last_number, EntryOk, EntriesOk, TakenByNow, Before, Rising, ReadBefore, OrderOk, TakenOk, packet_with, memory_with, MemoryOk, Settled, acknowledging, OnAir, Inv}
+use Rattle.law.proofs.Inv.{other_trials, other_receipts, Pending, last_number, EntryOk, EntriesOk, TakenByNow, Before, Rising, ReadBefore, OrderOk, TakenOk, packet_with, memory_with, MemoryOk, Settled, acknowledging, OnAir, Inv}
 use Rattle.law.proofs.Changes.{like_changes, now_there, now_elsewhere}
 use Rattle.law.proofs.Carrying.{tries_carried}
 
@@ -149,12 +149,10 @@ module _ (w : ℕ) (f : List Bool → ℕ) where
             kind = inr (refl, accounted);
           },
         );
-        law = record {
-          reads_are_writes = subst (λ l. All (Rattle.law.specs.Law.ReadsAWrite c h.writes) l) (sym reads) i.law.reads_are_writes;
-          in_order = subst Rattle.law.specs.Law.InOrder (sym reads) i.law.in_order;
-          sent_means_taken = i.law.sent_means_taken;
-          no_giving_up_within_the_retry_budget = i.law.no_giving_up_within_the_retry_budget;
-        };
+        law = other_trials
+            (other_receipts i.law rc (subst (λ l. All (Rattle.law.specs.Law.ReadsAWrite c h.writes) l) (sym reads) i.law.reads_are_writes)
+            (subst Rattle.law.specs.Law.InOrder (sym reads) i.law.in_order))
+            _ _ i.law.no_giving_up_within_the_retry_budget;
       }
 
   -- ---- a repeat

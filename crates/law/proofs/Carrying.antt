@@ -15,7 +15,7 @@ use Rattle.law.specs.Lists.{All}
 use Rattle.law.specs.Law.{Payload, Exchange, Counting, History, at, oldest, tx_length, touched, touching, taking, shrank, note_counting, with_receipts}
 use Rattle.law.proofs.Terms.{Like}
 use Rattle.law.proofs.Facts.{at_there, at_elsewhere}
-use Rattle.law.proofs.Inv.{Failed, TriesOk, Pending, AirOk, Inv}
+use Rattle.law.proofs.Inv.{other_trials, Failed, TriesOk, Pending, AirOk, Inv}
 use Rattle.law.proofs.Ticks.{repend}
 
 -- ---- the units by their places are all that counts
@@ -153,10 +153,5 @@ module _ (w : ℕ) (f : List Bool → ℕ) where
     taken = i.taken;
     order = i.order;
     air = tt;
-    law = record {
-      reads_are_writes = i.law.reads_are_writes;
-      in_order = i.law.in_order;
-      sent_means_taken = i.law.sent_means_taken;
-      no_giving_up_within_the_retry_budget = i.law.no_giving_up_within_the_retry_budget;
-    };
+    law = other_trials i.law _ _ i.law.no_giving_up_within_the_retry_budget;
   }

@@ -15,7 +15,7 @@ use Rattle.law.specs.Law.{Payload, Read, Writes, Trials, Receipts, History, with
 use Rattle.law.specs.Law.{ReadsAWrite, InOrder, OverBudget, Lawful}
 use Rattle.law.proofs.Terms.{Like, AllLike}
 use Rattle.law.proofs.Facts.{there_within}
-use Rattle.law.proofs.Inv.{SenderOk, TriesOk, Pending, EntriesOk, MemoryOk, last_number, OrderOk, PayloadFrame, OnAir, AirOk, Inv}
+use Rattle.law.proofs.Inv.{other_receipts, SenderOk, TriesOk, Pending, EntriesOk, MemoryOk, last_number, OrderOk, PayloadFrame, OnAir, AirOk, Inv}
 use Rattle.law.proofs.Grows.{Extends, entries_grow, taken_grows, mistaken_grows, accounted_grows, memory_grows, reads_grow}
 
 -- ---- a unit in place of another
@@ -152,10 +152,5 @@ module _ (w : ℕ) (f : List Bool → ℕ) where
         order = order;
         air = air_changes c d (with_unit d 0 t) h g (record { more = λ k n b m. m; later = λ k. omega arith }) refl refl refl
             (λ k n one before y there wait. before y (other_is k y one there) wait) d.air i.air;
-        law = record {
-          reads_are_writes = right;
-          in_order = rising;
-          sent_means_taken = i.law.sent_means_taken;
-          no_giving_up_within_the_retry_budget = i.law.no_giving_up_within_the_retry_budget;
-        };
+        law = other_receipts i.law _ right rising;
       }

@@ -22,8 +22,8 @@ use Rattle.cell.specs.declared.parts.Inside.{Inside}
 use Rattle.cell.specs.Air.{frame_of}
 use Rattle.cell.specs.Calls.{unit_at}
 use Rattle.law.specs.Lists.{All, SomeOf, In}
-use Rattle.law.specs.Law.{Payload, Answering, Read, Exchange, Writes, History, pipe_of_sender}
-use Rattle.law.specs.Law.{Mistaken, Lawful}
+use Rattle.law.specs.Law.{Payload, Answering, Read, Exchange, Writes, Receipts, Trials, History, pipe_of_sender, with_receipts}
+use Rattle.law.specs.Law.{Mistaken, ReadsAWrite, InOrder, OverBudget, Lawful}
 use Rattle.law.proofs.Terms.{AllLike}
 
 -- ---- a sender's queue is the tail of what it wrote
@@ -209,3 +209,26 @@ module _ (w : ℕ) (f : List Bool → ℕ) where
     pub order : OrderOk h.receipts.taken h.receipts.unread h.receipts.reads
     pub air : AirOk c d h d.air
     pub law : Lawful f c h
+
+-- ---- the law, where the history changed in one part
+
+-- the trials, and what is on the air
+pub other_trials : {f : List Bool → ℕ} {c : Inside} {h : History} → Lawful f c h → (aired : Option Payload) (x : Trials)
+    → ((k : ℕ) (s : State) → 1 ≤ k → unit_at c k ≡ Some s → All (OverBudget (retry_of s.registers).count) (x.failed k))
+    → Lawful f c (record { writes = h.writes; aired = aired; receipts = h.receipts; counted = h.counted; trials = x })
+other_trials l aired x over = record {
+  reads_are_writes = l.reads_are_writes;
+  in_order = l.in_order;
+  sent_means_taken = l.sent_means_taken;
+  no_giving_up_within_the_retry_budget = over;
+}
+
+-- the receipts
+pub other_receipts : {f : List Bool → ℕ} {c : Inside} {h : History} → Lawful f c h → (x : Receipts) → All (ReadsAWrite c h.writes) x.reads → InOrder x.reads
+    → Lawful f c (with_receipts x h)
+other_receipts l x writes order = record {
+  reads_are_writes = writes;
+  in_order = order;
+  sent_means_taken = l.sent_means_taken;
+  no_giving_up_within_the_retry_budget = l.no_giving_up_within_the_retry_budget;
+}

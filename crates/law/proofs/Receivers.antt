@@ -37,7 +37,7 @@ use Rattle.law.specs.Law.{one_if, ReadsAWrite, Later, InOrder, OverBudget}
 use Rattle.law.proofs.Terms.{Fits}
 use Rattle.law.proofs.Carries.{index_below}
 use Rattle.law.proofs.Facts.{at_elsewhere}
-use Rattle.law.proofs.Inv.{TriesOk, Pending, EntryOk, EntriesOk, Before, ReadBefore, ReadByNow, TakenByNow, OrderOk, TakenOk, last_number, Inv}
+use Rattle.law.proofs.Inv.{other_trials, TriesOk, Pending, EntryOk, EntriesOk, Before, ReadBefore, ReadByNow, TakenByNow, OrderOk, TakenOk, last_number, Inv}
 use Rattle.law.proofs.Changes.{receiver_changes, air_changes}
 use Rattle.law.proofs.Senders.{first_none, sound_refusal, note_ce}
 use Rattle.law.proofs.Ticks.{data_back}
@@ -284,15 +284,10 @@ module _ (w : ℕ) (f : List Bool → ℕ) where
         order = i.order;
         air = air_changes w f c t t h (gave_up 0 h) (record { more = λ k n b m. m; later = λ k. omega arith }) refl refl refl
             (λ k n one before. before) t.air i.air;
-        law = record {
-          reads_are_writes = i.law.reads_are_writes;
-          in_order = i.law.in_order;
-          sent_means_taken = i.law.sent_means_taken;
-          no_giving_up_within_the_retry_budget = λ k s one there.
-              subst (λ l. All (OverBudget (retry_of s.registers).count) l)
-              (sym (at_elsewhere 0 k (h.trials.exchanges 0 ∷ h.trials.failed 0) h.trials.failed (other k one)))
-              (i.law.no_giving_up_within_the_retry_budget k s one there);
-        };
+        law = other_trials i.law h.aired (gave_up 0 h).trials (λ k s one there.
+            subst (λ l. All (OverBudget (retry_of s.registers).count) l)
+            (sym (at_elsewhere 0 k (h.trials.exchanges 0 ∷ h.trials.failed 0) h.trials.failed (other k one)))
+            (i.law.no_giving_up_within_the_retry_budget k s one there));
       }
 
   giving_up_unseen : (c t : Inside) (h : History) (before after : Bool) → Inv w f c t h → Inv w f c t (note_giving_up before after 0 h)

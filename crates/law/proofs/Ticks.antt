@@ -33,7 +33,7 @@ use Rattle.law.specs.Runs.{tick, answer_of, outcome}
 use Rattle.law.specs.Law.{Payload, Exchange, History, Writes, at, oldest, waits, begun, was_sent, gave_up, note_sending, note_giving_up, note_tick, note}
 use Rattle.law.specs.Law.{OverBudget, one_if, spoiled_count}
 use Rattle.law.proofs.Facts.{at_there, at_elsewhere, at_each, drop_nth, nth_all}
-use Rattle.law.proofs.Inv.{Sendable, trying, SenderOk, Failed, TriesOk, WaitsOk, Pending, pid_at, numbered, packet_with, last_number, Settled, TakenOk, AirOk, Inv}
+use Rattle.law.proofs.Inv.{other_trials, Sendable, trying, SenderOk, Failed, TriesOk, WaitsOk, Pending, pid_at, numbered, packet_with, last_number, Settled, TakenOk, AirOk, Inv}
 use Rattle.law.proofs.Changes.{sender_changes, like_changes, now_there, now_elsewhere, now_is}
 use Rattle.law.proofs.Tails.{identity_number, numbered_first, tail_first, tail_length, tries_none, waiting_tries}
 use Rattle.law.proofs.Senders.{Quiet, quiet_sender, resting_idle}
@@ -146,18 +146,13 @@ module _ (w : ℕ) (f : List Bool → ℕ) where
     taken = i.taken;
     order = i.order;
     air = air_same d.air i.air;
-    law = record {
-      reads_are_writes = i.law.reads_are_writes;
-      in_order = i.law.in_order;
-      sent_means_taken = i.law.sent_means_taken;
-      no_giving_up_within_the_retry_budget = λ k y one there.
-          at_each (λ j l. j ≡ k → All (OverBudget (retry_of y.registers).count) l) u (xs ∷ h.trials.failed u) h.trials.failed k
-          (λ same _. (
-            over y (subst (λ j. unit_at c j ≡ Some y) same there),
-            i.law.no_giving_up_within_the_retry_budget u y (subst (λ j. 1 ≤ j) same one) (subst (λ j. unit_at c j ≡ Some y) same there),
-          ))
-          (λ other _. i.law.no_giving_up_within_the_retry_budget k y one there) refl;
-    };
+    law = other_trials i.law h.aired g.trials (λ k y one there.
+        at_each (λ j l. j ≡ k → All (OverBudget (retry_of y.registers).count) l) u (xs ∷ h.trials.failed u) h.trials.failed k
+        (λ same _. (
+          over y (subst (λ j. unit_at c j ≡ Some y) same there),
+          i.law.no_giving_up_within_the_retry_budget u y (subst (λ j. 1 ≤ j) same one) (subst (λ j. unit_at c j ≡ Some y) same there),
+        ))
+        (λ other _. i.law.no_giving_up_within_the_retry_budget k y one there) refl);
   } where
     g : History
     g = record {
@@ -293,12 +288,7 @@ module _ (w : ℕ) (f : List Bool → ℕ) where
             kind = inl (refl, last_settled c h.writes u h.receipts.taken i.taken);
           },
         );
-        law = record {
-          reads_are_writes = i.law.reads_are_writes;
-          in_order = i.law.in_order;
-          sent_means_taken = i.law.sent_means_taken;
-          no_giving_up_within_the_retry_budget = i.law.no_giving_up_within_the_retry_budget;
-        };
+        law = other_trials i.law _ _ i.law.no_giving_up_within_the_retry_budget;
       }
 
   -- the same, of whatever the oldest payload is

@@ -81,6 +81,8 @@ impl Core {
     }
 
     // One tick; `waiting` says whether a payload stands in the TX queue. The answer says whether the oldest payload is sent.
+    // The countdown is written out for each mode: of an or-pattern over the three that binds `left` by `&mut` it is not proved that what
+    // is written through `left` is the mode that stands then.
     pub fn tick(&mut self, role: Role, retry: Retry, waiting: bool) -> bool
         ensures after { self.new ≡ ticked role retry waiting self.old }
         ensures answer { result ≡ sends role retry self.old }

@@ -1,3 +1,4 @@
+pub mod Fixed
 pub mod Made
 pub mod Served
 pub mod Holds

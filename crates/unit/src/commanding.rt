@@ -1,32 +1,22 @@
-// Host commands on a boxed unit.
+// Host commands on a boxed unit. Each order's function has the three clauses of `command`, of the answer, the state and the buffer: a
+// relation over the three would only hide by its name that they are those of the public call.
 ghost use Rattle.std.specs.Prelude.{◌≡◌, ◌<◌, [], ◌∷◌, length, true, slice_index_or, nat_lt};
-ghost use Rattle.std.specs.List.{list_all};
-ghost use Rattle.registers.specs.Bits.{bit};
 ghost use Rattle.commands.specs.declared.refusal.Refusal.TheVariants.{ReplyRoom};
 ghost use Rattle.commands.specs.Decode.{order, ordered, read_register, write_register, write_payload, read_payload, flush_tx, flush_rx, fits};
 ghost use Rattle.commands.specs.Refusals.{first_of, unless};
-ghost use Rattle.unit.specs.Commanding.{live_of, alike, fixed, value_refusals, written, wrong_role, further_answer, further_after, further_buffer, serve_answer, serve_after, serve_buffer, command_answer, command_after, command_buffer};
+ghost use Rattle.unit.specs.Commanding.{live_of, fixed, value_refusals, written, wrong_role, further_answer, further_after, further_buffer, serve_answer, serve_after, serve_buffer, command_answer, command_after, command_buffer};
 
 use crate::entry::{Data, Outgoing};
 use crate::state::{Boxed, State};
 use bench::{Live, reply_register};
 use checks::Check;
 use commands::{Command, Refusal, decode, fifo_status, observe_tx, reply, status_byte};
-use registers::{Register, stands};
+use registers::Register;
 
 // The bits of CONFIG that are fixed by boxing: bit 7, which means nothing, EN_CRC, CRCO and PRIM_RX.
-const FIXED_BITS: [u8; 4] = [7, 3, 2, 0];
+const FIXED_BITS: u8 = 0x8D;
 
-// Whether two bytes have the same bits at these places.
-fn agree_at(places: &[u8], a: u8, b: u8) -> bool
-    ensures { result ≡ list_all (λ place. alike (bit place a) (bit place b)) places.now }
-{
-    places
-        .iter()
-        .all(|&place| stands(a, place) == stands(b, place))
-}
-
-// The first of the data bytes.
+// The first of the data bytes. A write of none is refused, since no register allows it, so the 0 is never stored.
 fn first_byte(data: &[u8]) -> u8
     ensures { result ≡ slice_index_or «data».now 0 0 }
 {
@@ -71,24 +61,24 @@ impl State {
     }
 
     // Whether the register, or a bit of it that would change, is fixed by boxing.
+    #[tactic(auto, using(crate::proofs::Fixed::masked))]
     fn is_fixed(&self, register: Register, value: u8) -> bool
         ensures { result ≡ fixed self.now register (value ∷ []) }
     {
         match register {
             Register::Status => false,
-            Register::Config => !agree_at(&FIXED_BITS, self.core.config, value),
+            Register::Config => (self.core.config ^ value) & FIXED_BITS != 0,
             _ => true,
         }
     }
 
-    // A write that reaches STATUS or CONFIG.
+    // A write that is neither read-only nor fixed reaches STATUS or, being the only other one left, CONFIG.
     fn store(&mut self, register: Register, value: u8)
         ensures { self.new ≡ written self.old register value }
     {
-        if register == Register::Status {
-            self.core.flags = self.core.flags.cleared_by(value);
-        } else {
-            self.core.configure(value);
+        match register {
+            Register::Status => self.core.flags = self.core.flags.cleared_by(value),
+            _ => self.core.configure(value),
         }
     }
 

@@ -14,6 +14,7 @@ impl Data {
         if given.is_empty() {
             return None;
         }
+        // no `map`: the proof that the entry is the one defined does not close over its closure
         let payload = Payload::new(given)?;
         Some(Data { payload })
     }

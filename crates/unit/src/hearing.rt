@@ -11,37 +11,13 @@ ghost use Rattle.unit.specs.Hearing.{on_pipe, pipe_of, on_its_pipe, taken, ackno
 use crate::entry::{Data, Received};
 use crate::memory::Memory;
 use crate::refusing::ensure_frame_fits;
-use crate::settings::{address_width, role};
 use crate::state::{Boxed, State};
 use crate::ticking::put_frame;
 use checks::Check;
 use commands::Refusal;
 use frames::{Address, Fields, Heard, Payload};
 use modes::Role;
-use registers::{Pipe, Registers};
-
-// The address in use of a pipe.
-fn pipe_in_use(registers: &Registers, pipe: Pipe) -> Address
-    ensures { address_bytes result ≡ in_use registers.now (pipe_address registers.now pipe) }
-{
-    Address::of_low_bytes(registers.pipe_address(pipe), address_width(registers))
-}
-
-fn is_on_pipe(registers: &Registers, address: &Address, pipe: Pipe) -> bool
-    ensures { result ≡ on_pipe registers.now (address_bytes address.now) pipe }
-{
-    registers.is_enabled(pipe) && pipe_in_use(registers, pipe) == *address
-}
-
-// The pipe of a receiver with this address.
-fn pipe_of(registers: &Registers, address: &Address) -> Option<Pipe>
-    ensures { result ≡ pipe_of registers.now (address_bytes address.now) }
-{
-    Pipe::all()
-        .iter()
-        .find(|pipe| is_on_pipe(registers, address, **pipe))
-        .copied()
-}
+use registers::Pipe;
 
 // The answer to a frame, if it wants one: its NO_ACK is 0, as the frame's is then.
 fn acknowledge(fields: &Fields) -> Option<Fields>
@@ -57,6 +33,29 @@ fn acknowledge(fields: &Fields) -> Option<Fields>
 }
 
 impl State {
+    // The address in use of a pipe.
+    fn pipe_in_use(&self, pipe: Pipe) -> Address
+        ensures { address_bytes result ≡ in_use self.now.registers (pipe_address self.now.registers pipe) }
+    {
+        Address::of_low_bytes(self.registers.pipe_address(pipe), self.address_width())
+    }
+
+    fn is_on_pipe(&self, address: &Address, pipe: Pipe) -> bool
+        ensures { result ≡ on_pipe self.now.registers (address_bytes address.now) pipe }
+    {
+        self.registers.is_enabled(pipe) && self.pipe_in_use(pipe) == *address
+    }
+
+    // The pipe of a receiver with this address. By reference and `copied`, since std has no lemma of what is found in an array by value.
+    fn pipe_of(&self, address: &Address) -> Option<Pipe>
+        ensures { result ≡ pipe_of self.now.registers (address_bytes address.now) }
+    {
+        Pipe::all()
+            .iter()
+            .find(|pipe| self.is_on_pipe(address, **pipe))
+            .copied()
+    }
+
     // A frame with the address of one of the receiver's pipes.
     fn hear_on(&mut self, pipe: Pipe, heard: &Heard) -> Option<Fields>
         ensures after { self.new ≡ (on_its_pipe self.old (packet_of heard.now.fields) (record { pid = pid_number heard.now.fields.pid; check = heard.now.check }) (Some pipe)).state }
@@ -84,16 +83,14 @@ impl State {
         ensures after { self.new ≡ (heard_by_receiver self.old (packet_of heard.now.fields) heard.now.check).state }
         ensures answer { option_map packet_of result ≡ (heard_by_receiver self.old (packet_of heard.now.fields) heard.now.check).answer }
     {
-        let pipe = pipe_of(&self.registers, &heard.fields.address)?;
+        let pipe = self.pipe_of(&heard.fields.address)?;
         self.hear_on(pipe, heard)
     }
 
     fn hear_as_sender(&mut self, fields: &Fields)
         ensures { self.new ≡ (heard_by_sender self.old (packet_of fields.now)).state }
     {
-        if fields.payload.bytes().is_empty()
-            && pipe_in_use(&self.registers, Pipe::P0) == fields.address
-        {
+        if fields.payload.bytes().is_empty() && self.pipe_in_use(Pipe::P0) == fields.address {
             let _ = self.tx.pop();
             let left = !self.tx.is_empty();
             self.core.acknowledge(left);
@@ -105,7 +102,7 @@ impl State {
         ensures after { self.new ≡ (hears self.old (packet_of heard.now.fields) heard.now.check).state }
         ensures answer { option_map packet_of result ≡ (hears self.old (packet_of heard.now.fields) heard.now.check).answer }
     {
-        match role(&self.registers) {
+        match self.role() {
             Role::Receiver if self.core.mode.is_rx() => self.hear_as_receiver(heard),
             Role::Sender if self.core.mode.is_waiting() => {
                 self.hear_as_sender(&heard.fields);
@@ -128,9 +125,10 @@ impl<C: Check> Boxed<C> {
         self.state.ensure_sound()?;
         ensure_frame_fits(buffer)?;
         // no `?` alone: neither refusal is a type of this crate, so it can write no From for them
-        let heard = frames::read::<C>(frame, count, address_width(&self.state.registers)).map_err(
+        let heard = frames::read::<C>(frame, count, self.state.address_width()).map_err(
             |_| Refusal::FrameBytes,
         )?;
+        // no `map_or`: of the unit that its closure would change, nothing is known after it
         let Some(heard) = heard else {
             return Ok(0);
         };

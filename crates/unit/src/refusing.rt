@@ -1,4 +1,4 @@
-// What refuses a call before all else.
+// What refuses a call: a fault before all else, and too small a buffer for the frame that a call may put there.
 ghost use Rattle.std.specs.Prelude.{◌≡◌, [], ◌∷◌, length, nat_lt};
 ghost use Rattle.commands.specs.declared.refusal.Refusal.TheVariants.{FrameBytes};
 ghost use Rattle.commands.specs.Refusals.{first_of, unless};
@@ -12,18 +12,19 @@ impl State {
     pub(crate) fn ensure_sound(&self) -> Result<(), Refusal>
         ensures { result ≡ unless (fault_refusal self.now) tt }
     {
-        match self.fault {
-            Some(register) => Err(Refusal::Fault(register)),
-            None => Ok(()),
-        }
+        self.fault
+            .map_or(Ok(()), |register| Err(Refusal::Fault(register)))
     }
 }
+
+// The bytes of the longest frame.
+const LONGEST_FRAME: usize = 42;
 
 // There is room for the longest frame.
 pub(crate) fn ensure_frame_fits(buffer: &[u8]) -> Result<(), Refusal>
     ensures { result ≡ unless (first_of ((nat_lt (length buffer.now) 42, FrameBytes) ∷ [])) tt }
 {
-    if buffer.len() < 42 {
+    if buffer.len() < LONGEST_FRAME {
         Err(Refusal::FrameBytes)
     } else {
         Ok(())

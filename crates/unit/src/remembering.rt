@@ -1,4 +1,4 @@
-// The inner table of pipe memories.
+// The memories of the pipes, read and written.
 ghost use Rattle.std.specs.Prelude.{◌≡◌};
 ghost use Rattle.unit.specs.Hearing.{recalled, same_memory, remembered};
 

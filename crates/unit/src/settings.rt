@@ -6,41 +6,44 @@ ghost use Rattle.registers.specs.Readings.{width_of};
 ghost use Rattle.frames.specs.Calls.{width_of as bytes_of_width, address_bytes};
 ghost use Rattle.unit.specs.Units.{role_of, retry_of, tx_address};
 
+use crate::state::State;
 use frames::{Address, AddressWidth};
 use modes::{Retry, Role};
-use registers::{Register, Registers};
+use registers::Register;
 
-pub(crate) fn role(registers: &Registers) -> Role
-    ensures { result ≡ role_of registers.now }
-{
-    if registers.is_receiver() {
-        Role::Receiver
-    } else {
-        Role::Sender
+impl State {
+    pub(crate) fn role(&self) -> Role
+        ensures { result ≡ role_of self.now.registers }
+    {
+        if self.registers.is_receiver() {
+            Role::Receiver
+        } else {
+            Role::Sender
+        }
     }
-}
 
-pub(crate) fn retry(registers: &Registers) -> Retry
-    ensures { result ≡ retry_of registers.now }
-{
-    Retry {
-        delay: registers.retry_delay(),
-        count: registers.retries(),
+    pub(crate) fn retry(&self) -> Retry
+        ensures { result ≡ retry_of self.now.registers }
+    {
+        Retry {
+            delay: self.registers.retry_delay(),
+            count: self.registers.retries(),
+        }
     }
-}
 
-pub(crate) fn address_width(registers: &Registers) -> AddressWidth
-    ensures { bytes_of_width result ≡ width_of (byte_of registers.now SetupAw) }
-{
-    // a register file says 3, 4 or 5
-    AddressWidth::try_from(registers.address_width()).unwrap()
-}
+    pub(crate) fn address_width(&self) -> AddressWidth
+        ensures { bytes_of_width result ≡ width_of (byte_of self.now.registers SetupAw) }
+    {
+        // a number of bytes there, since the registers stand below the frames; a register file says 3, 4 or 5
+        AddressWidth::try_from(self.registers.address_width()).unwrap()
+    }
 
-// The address to which a sender sends.
-pub(crate) fn tx_address(registers: &Registers) -> Address
-    ensures { address_bytes result ≡ tx_address registers.now }
-{
-    let mut held = [0; 5];
-    held.copy_from_slice(registers.value(Register::TxAddr));
-    Address::of_low_bytes(held, address_width(registers))
+    // The address to which a sender sends.
+    pub(crate) fn tx_address(&self) -> Address
+        ensures { address_bytes result ≡ tx_address self.now.registers }
+    {
+        let mut held = [0; 5];
+        held.copy_from_slice(self.registers.value(Register::TxAddr));
+        Address::of_low_bytes(held, self.address_width())
+    }
 }

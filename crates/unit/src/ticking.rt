@@ -6,7 +6,6 @@ ghost use Rattle.frames.specs.Packet.{buffer_after};
 ghost use Rattle.unit.specs.Ticking.{oldest_packet, sent, bits_of, tick_state, tick_answer, tick_after, tick_buffer, ce_answer, ce_after};
 
 use crate::refusing::ensure_frame_fits;
-use crate::settings::{retry, role, tx_address};
 use crate::state::{Boxed, State};
 use checks::Check;
 use commands::Refusal;
@@ -18,7 +17,7 @@ impl State {
         ensures { option_map packet_of result ≡ oldest_packet self.now }
     {
         self.tx.oldest().map(|outgoing| Fields {
-            address: tx_address(&self.registers),
+            address: self.tx_address(),
             pid: outgoing.pid,
             no_ack: false,
             payload: outgoing.data.payload,
@@ -30,8 +29,8 @@ impl State {
         ensures after { self.new ≡ tick_state self.old }
         ensures answer { option_map packet_of result ≡ sent self.old }
     {
-        let role = role(&self.registers);
-        let retry = retry(&self.registers);
+        let role = self.role();
+        let retry = self.retry();
         let waiting = !self.tx.is_empty();
         if self.core.tick(role, retry, waiting) {
             self.oldest_fields()
@@ -48,6 +47,7 @@ pub(crate) fn put_frame<C: Check>(fields: Option<Fields>, buffer: &mut [u8]) -> 
     ensures answer { result ≡ length (bits_of C.Check.W C.meaning (option_map packet_of fields)) }
     ensures buffer { buffer.new ≡ buffer_after (bits_of C.Check.W C.meaning (option_map packet_of fields)) buffer.old }
 {
+    // no `map_or`: of the buffer that its closure would write to, nothing is known after it
     let Some(fields) = fields else {
         return 0;
     };
@@ -74,7 +74,7 @@ impl<C: Check> Boxed<C> {
         ensures state { self.new.state ≡ ce_after high self.old.state }
     {
         self.state.ensure_sound()?;
-        let role = role(&self.state.registers);
+        let role = self.state.role();
         self.state.core.set_ce(role, high);
         Ok(())
     }

@@ -9,11 +9,12 @@ mod tests {
     use bench::Bench;
     use checks::{Check, Crc8, Crc16};
     use commands::Refusal;
+    use registers::Register;
     use std::process::Abort;
     use unit::Boxed;
 
     fn is_refused(refusal: Refusal, number: u8, register: Option<u8>) -> bool {
-        refusal.number() == number && refusal.register().map(|found| found.address()) == register
+        refusal.number() == number && refusal.register().map(Register::address) == register
     }
 
     // The bytes wanted, and behind them what was in the buffer.
