@@ -96,11 +96,7 @@ pub fn decimal(word: &[u8]) -> Option<u64>
     if word.is_empty() {
         return None;
     }
-    let mut n = 0;
-    for c in word {
-        n = one_more(n, *c)?;
-    }
-    Some(n)
+    word.iter().try_fold(0, |n, c| one_more(n, *c))
 }
 
 // Bytes in the opposite order: what is written high byte first is often kept low byte first.

@@ -1,6 +1,6 @@
 // Bytes as results write them. Numbers are written as std prints them.
 ghost use Rattle.std.specs.Prelude.{◌≡◌, ℕ, ◌<◌, reverse, Some, Ok};
-ghost use Rattle.words.specs.Numbers.{byte_of, together_of, decimal_of, byte_shown, bytes_shown, digits_shown, decimal_shown};
+ghost use Rattle.words.specs.Numbers.{byte_of, together_of, decimal_of, digit_shown, byte_shown, bytes_shown, digits_shown, decimal_shown};
 ghost use Rattle.words.specs.Split.{words_of};
 ghost use Rattle.words.specs.Bytes.{bytes_from};
 
@@ -20,6 +20,21 @@ pub fn decimal_reads_back(n: u64)
     ensures { decimal_of (decimal_shown n) ≡ Some n }
 {
     let _n = n;
+}
+
+fn digit(d: u8) -> u8
+    requires { d < 16 }
+    ensures { result ≡ digit_shown d }
+{
+    if d < 10 { b'0' + d } else { b'A' + (d - 10) }
+}
+
+// The two digits of a byte, in upper case, for a caller who has no writer. They read back as the byte.
+pub fn hex(b: u8) -> [u8; 2]
+    ensures shown { result ≡ byte_shown b }
+    ensures reads { byte_of result ≡ Some b }
+{
+    [digit(b / 16), digit(b % 16)]
 }
 
 // The three loops below stay apart: one function over any iterator of bytes would need more contract than it saves code.
