@@ -46,6 +46,7 @@ pub fn together(heap: Global, word: &[u8]) -> Result<Option<Vec<u8>>, AllocError
 }
 
 // Why words are not read as bytes: one of them, counted from 1, is no byte, or there is no memory.
+// Plain data, which clauses compare: the error of the allocator is not kept, since it says no more than Memory does.
 #[derive(Clone, Copy, Debug, PartialEq, Eq)]
 pub enum Unread {
     NoByte { word: usize },

@@ -6,7 +6,7 @@ ghost use Rattle.words.specs.Bytes.{bytes_from};
 
 use std::fmt;
 
-// Nothing is done: the contract says that bytes read back from their digits, one by one, apart and together.
+// Nothing is done but that the parameter is used: the contract says that bytes read back from their digits, one by one, apart and together.
 pub fn bytes_read_back(bytes: &[u8])
     ensures each { (b : ℕ) → b < 256 → byte_of (byte_shown b) ≡ Some b }
     ensures apart { bytes_from 0 (words_of (bytes_shown bytes.now)) ≡ Ok bytes.now }
@@ -15,7 +15,7 @@ pub fn bytes_read_back(bytes: &[u8])
     let _first = bytes.first();
 }
 
-// Nothing is done: the contract says that a number reads back from its decimal digits.
+// Nothing is done but that the parameter is used: the contract says that a number reads back from its decimal digits.
 pub fn decimal_reads_back(n: u64)
     ensures { decimal_of (decimal_shown n) ≡ Some n }
 {
