@@ -73,12 +73,12 @@ impl<T: Drop> From<AllocFailed<T>> for Unread {
 pub fn bytes(heap: Global, words: &[&[u8]], from: usize) -> Result<Vec<u8>, Unread>
     ensures { ReadsBytes result (bytes_from from (drop from (texts words.now))) }
 {
-    let mut out = Vec::new(heap);
-    for (at, word) in words.iter().enumerate().skip(from) {
-        let b = byte(word).ok_or(Unread::NoByte { word: at + 1 })?;
-        out.push(b)?;
-    }
-    Ok(out)
+    words
+        .iter()
+        .enumerate()
+        .skip(from)
+        .map(|(at, word)| byte(word).ok_or(Unread::NoByte { word: at + 1 }))
+        .try_collect(heap)
 }
 
 fn one_more(n: u64, c: u8) -> Option<u64>
