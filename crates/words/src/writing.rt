@@ -40,7 +40,7 @@ pub fn hex(b: u8) -> [u8; 2]
 // The three loops below stay apart: one function over any iterator of bytes would need more contract than it saves code.
 
 // Bytes as separate words: a blank and two digits for each.
-#[derive(Clone, Copy)]
+#[derive(Clone, Copy, Debug)]
 pub struct Apart<'a>(pub &'a [u8]);
 
 impl fmt::Display for Apart<'_> {
@@ -55,7 +55,7 @@ impl fmt::Display for Apart<'_> {
 }
 
 // Bytes written together: two digits for each, with no blank.
-#[derive(Clone, Copy)]
+#[derive(Clone, Copy, Debug)]
 pub struct Joined<'a>(pub &'a [u8]);
 
 impl fmt::Display for Joined<'_> {
@@ -70,7 +70,7 @@ impl fmt::Display for Joined<'_> {
 }
 
 // The same in the opposite order: an address is kept low byte first and written high byte first.
-#[derive(Clone, Copy)]
+#[derive(Clone, Copy, Debug)]
 pub struct Reversed<'a>(pub &'a [u8]);
 
 impl fmt::Display for Reversed<'_> {
