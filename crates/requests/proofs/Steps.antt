@@ -3,6 +3,7 @@ use Rattle.std.proofs.Common.{◌≡◌, ℕ, ◌+◌, ◌≤◌, Bool, true, fa
 use Rattle.std.specs.Str.{bytes_eq}
 use Rattle.std.proofs.lemmas.Slice.Eq.{bytes_eq-Decides}
 use Rattle.std.proofs.lemmas.Bool.{le-ltb, ltb-false}
+use Rattle.std.proofs.lemmas.Option.{cond_some}
 use Rattle.words.specs.Numbers.{within, byte_of}
 use Rattle.words.specs.Bytes.{bytes_after}
 use Rattle.requests.specs.declared.lines.Form.{Form}
@@ -30,7 +31,7 @@ pub then_ok : {X Y : Type 0} (x : Result X Cannot) (f : X → Result Y Cannot) (
 then_ok (Ok v) f y h = (v, (refl, h))
 then_ok (Err e) f y h = never e y h
 
--- a test that must fail, and one that must hold
+-- a test that must fail, and `when` one that must hold: std's cond_some says it of options alone
 pub unless : {Y : Type 0} (b : Bool) (e : Cannot) (x : Result Y Cannot) (y : Y) → cond b (Err e) x ≡ Ok y → (b ≡ false) × (x ≡ Ok y)
 unless true e x y h = never e y h
 unless false e x y h = (refl, h)
@@ -66,13 +67,13 @@ number_parts low high e None n h = never e n h
 pub address_fits : (e : Cannot) (o : Option (List ℕ)) (bs : List ℕ) → o ≡ Some bs → 3 ≤ length bs → length bs ≤ 5 → or_else (as_address o) e ≡ Ok (reverse bs)
 address_fits e o bs is l h = ap (λ p. or_else (as_address p) e) is ∙ ap (λ b. or_else (cond b (Some (reverse bs)) None) e) (inside 3 5 (length bs) l h)
 
-pub address_by : (b : Bool) (e : Cannot) (x y : List ℕ) → or_else (cond b (Some x) None) e ≡ Ok y → (b ≡ true) × (x ≡ y)
-address_by true e x y h = (refl, cc)
-address_by false e x y h = never e y h
+pub or_else_ok : {X : Type 0} (o : Option X) (e : Cannot) (y : X) → or_else o e ≡ Ok y → o ≡ Some y
+or_else_ok (Some x) e y h = ap Some (ok_same h)
+or_else_ok None e y h = never e y h
 
 pub address_parts : (e : Cannot) (o : Option (List ℕ)) (a : List ℕ) → or_else (as_address o) e ≡ Ok a → (bs : List ℕ) × ((o ≡ Some bs) × ((3 ≤ length bs) × ((length bs ≤ 5) × (reverse bs ≡ a))))
 address_parts e (Some bs) a h =
-    let p = address_by (within 3 5 (length bs)) e (reverse bs) a h in
+    let p = cond_some (within 3 5 (length bs)) (reverse bs) a (or_else_ok (as_address (Some bs)) e a h) in
     let q = within_parts 3 5 (length bs) p.0 in
     (bs, (refl, (q.0, (q.1, p.1))))
 address_parts e None a h = never e a h

@@ -10,7 +10,7 @@ use Rattle.requests.specs.declared.lines.Cannot.TheVariants.{Word, TooFew}
 use Rattle.requests.specs.declared.lines.Wanted.TheVariants as want
 use Rattle.requests.specs.Lines.{UnitRequest, bench, load, check, box, irq, command, Request, field, unit, then, or_else, as_bytes, label_of, register_of, room_number, room_of, plain_line, field_line, load_line, command_with, command_line, unit_form_named, line_as}
 use Rattle.requests.specs.Grammar.{Labels, Write, Asks, fields, benches, checks, boxes, irqs, loads, commands, commands_with}
-use Rattle.requests.proofs.Steps.{never, ok_same, then_ok, enough, begun, three_words, bytes_last, number_fits, number_parts, bytes_fit, named}
+use Rattle.requests.proofs.Steps.{never, ok_same, then_ok, enough, begun, three_words, bytes_last, number_fits, number_parts, bytes_fit, named, or_else_ok}
 
 -- ---- one word
 
@@ -19,10 +19,6 @@ label_fits u label h = number_fits 0 7 (Word 2 want.Label) (decimal_of u) label 
 
 label_parts : (u : List ℕ) (label : ℕ) → label_of u ≡ Ok label → Labels u label
 label_parts u label h = let p = number_parts 0 7 (Word 2 want.Label) (decimal_of u) label h in record { is = p.0; high = p.1.1 }
-
-register_by : (o : Option ℕ) (r : ℕ) → or_else o (Word 2 want.Register) ≡ Ok r → o ≡ Some r
-register_by (Some v) r h = ap Some (ok_same h)
-register_by None r h = never (Word 2 want.Register) r h
 
 none_paired : (o : Option ℕ) → paired None o ≡ None
 none_paired (Some l) = refl
@@ -92,7 +88,7 @@ field_back w [] q h = never (TooFew form.Field) q h
 field_back w (r ∷ ps) q h =
     let s = begun 2 form.Field (w ∷ r ∷ ps) (register_of r) (λ u. then (as_bytes (bytes_after [] 2 ps)) (λ p. Ok (field u p))) q h in
     let p = bytes_last ps 2 (field s.0) q s.1.1 in
-    subst (Asks (codes "field" ∷ r ∷ ps)) p.1.1 (fields r ps s.0 p.0 (register_by (byte_of r) s.0 s.1.0) p.1.0)
+    subst (Asks (codes "field" ∷ r ∷ ps)) p.1.1 (fields r ps s.0 p.0 (or_else_ok (byte_of r) (Word 2 want.Register) s.0 s.1.0) p.1.0)
 
 load_back : (w : List ℕ) (ws : List (List ℕ)) (q : Request) → load_line (w ∷ ws) ≡ Ok q → Asks (codes "load" ∷ ws) q
 load_back w [] q h = never (TooFew form.Load) q h

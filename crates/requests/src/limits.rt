@@ -1,36 +1,29 @@
-// What the lines have in common: how many words there are, and a word that is a number.
+// What the lines have in common: two words and no more, and a word that is a number.
 ghost use Rattle.std.specs.Prelude.{◌≡◌, Ok};
 ghost use Rattle.words.specs.Split.{texts};
 ghost use Rattle.words.specs.Numbers.{decimal_of};
 ghost use Rattle.requests.specs.declared.lines.Cannot.TheVariants.{Word};
-ghost use Rattle.requests.specs.Lines.{at_least, at_most, Makes};
+ghost use Rattle.requests.specs.Lines.{at_least, at_most, word_at, Means, Makes};
 
 use crate::lines::{Cannot, Form, Wanted};
 use words::decimal;
 
+// The word at a place, counted from 1, is not what was wanted.
 pub(crate) fn unfit(word: usize, wanted: Wanted) -> Cannot
     ensures { result ≡ Word word wanted }
 {
     Cannot::Word { word, wanted }
 }
 
-pub(crate) fn at_least(words: &[&[u8]], n: usize, form: Form) -> Result<(), Cannot>
-    ensures { result ≡ at_least n form (texts words.now) (Ok tt) }
+// The second word of a line that has two.
+pub(crate) fn second_of_two<'a>(words: &[&'a [u8]], form: Form) -> Result<&'a [u8], Cannot>
+    ensures { Means (λ w. w.now) result (at_least 2 form (texts words.now) (at_most 2 form (texts words.now) (Ok (word_at (texts words.now) 1)))) }
 {
-    if words.len() < n {
-        return Err(Cannot::TooFew(form));
+    match words {
+        [] | [_] => Err(Cannot::TooFew(form)),
+        [_, word] => Ok(word),
+        _ => Err(Cannot::TooMany(form)),
     }
-    Ok(())
-}
-
-pub(crate) fn exactly(words: &[&[u8]], n: usize, form: Form) -> Result<(), Cannot>
-    ensures { result ≡ at_least n form (texts words.now) (at_most n form (texts words.now) (Ok tt)) }
-{
-    at_least(words, n, form)?;
-    if words.len() > n {
-        return Err(Cannot::TooMany(form));
-    }
-    Ok(())
 }
 
 // What make has for the decimal number that a word is.

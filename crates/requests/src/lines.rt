@@ -24,7 +24,7 @@ pub enum Line {
         bits: u16,
         bytes: Vec<u8>,
     },
-    // looks a register up in a profile
+    // looks a register up in a profile; any byte, since a lookup refuses none that no register has
     Field {
         register: u8,
         profile: Vec<u8>,
@@ -89,11 +89,11 @@ pub enum Lack {
     IsBoxed,
     // it is on the bench, and the line is for a boxed unit
     OnBench,
-    // it is boxed, and takes no host commands yet
+    // it is boxed, and the console hands no host commands on to a boxed unit yet
     NoModes,
 }
 
-// Why a line cannot be carried out. A word is counted from 1.
+// Why a line cannot be carried out. A word is counted from 1, and of a label there is its place, which is only printed from here on.
 #[derive(Clone, Copy, Debug, PartialEq, Eq)]
 pub enum Cannot {
     Word { word: usize, wanted: Wanted },
@@ -104,6 +104,7 @@ pub enum Cannot {
 }
 
 // Why a line goes no further: it cannot be carried out, or there is no memory, which ends the run.
+// Plain data, which clauses compare: the error of the allocator is not kept, since it says no more than Memory does.
 #[derive(Clone, Copy, Debug, PartialEq, Eq)]
 pub enum Stop {
     Cannot(Cannot),

@@ -6,12 +6,12 @@ ghost use Rattle.frames.specs.Calls.{width_of, pid_number, address_bytes};
 ghost use Rattle.requests.specs.Lines.{form_named, kind_named, address_of, pid_of, no_ack_of, width_number, bit_count, kind_line, pack_line, read_line, line_of, asked, Means, Gives};
 ghost use Rattle.requests.specs.Grammar.{Settled};
 
-use crate::limits::{at_least, exactly, number, unfit};
+use crate::limits::{number, second_of_two, unfit};
 use crate::lines::{Cannot, Form, Kind, Line, Stop, UnitLine, Wanted};
 use crate::units::{command_line, field_line, load_line, plain_line};
 use frames::{Address, AddressWidth, Fields, Payload, Pid};
 use std::alloc::{AllocError, Global};
-use words::{bytes, reversed, together, word};
+use words::{bytes, reversed, together};
 
 fn form_of(word: &[u8]) -> Option<Form>
     ensures { result ≡ form_named word.now }
@@ -41,7 +41,8 @@ fn kind_of(word: &[u8]) -> Result<Kind, Cannot>
     }
 }
 
-fn address(heap: Global, word: &[u8]) -> Result<Option<Address>, AllocError>
+// No `and_then`: a closure could not hand on the error of the allocator.
+fn address_of(heap: Global, word: &[u8]) -> Result<Option<Address>, AllocError>
     ensures { IfOk result (λ o. option_map address_bytes o ≡ address_of word.now) }
 {
     let Some(high_first) = together(heap, word)? else {
@@ -51,7 +52,7 @@ fn address(heap: Global, word: &[u8]) -> Result<Option<Address>, AllocError>
     Ok(Address::new(&low_first))
 }
 
-fn pid(word: &[u8]) -> Result<Pid, Cannot>
+fn pid_of(word: &[u8]) -> Result<Pid, Cannot>
     ensures { Means pid_number result (pid_of word.now) }
 {
     number(word, 3, Wanted::Pid, |n| {
@@ -59,7 +60,7 @@ fn pid(word: &[u8]) -> Result<Pid, Cannot>
     })
 }
 
-fn no_ack(word: &[u8]) -> Result<bool, Cannot>
+fn no_ack_of(word: &[u8]) -> Result<bool, Cannot>
     ensures { result ≡ no_ack_of word.now }
 {
     number(word, 4, Wanted::NoAck, |n| match n {
@@ -69,7 +70,7 @@ fn no_ack(word: &[u8]) -> Result<bool, Cannot>
     })
 }
 
-fn width(word: &[u8]) -> Result<AddressWidth, Cannot>
+fn width_of(word: &[u8]) -> Result<AddressWidth, Cannot>
     ensures { Means width_of result (width_number word.now) }
 {
     number(word, 2, Wanted::Width, |n| {
@@ -77,7 +78,7 @@ fn width(word: &[u8]) -> Result<AddressWidth, Cannot>
     })
 }
 
-fn bits(word: &[u8]) -> Result<u16, Cannot>
+fn bits_of(word: &[u8]) -> Result<u16, Cannot>
     ensures { result ≡ bit_count word.now }
 {
     number(word, 3, Wanted::BitCount, |n| u16::try_from(n).ok())
@@ -86,18 +87,19 @@ fn bits(word: &[u8]) -> Result<u16, Cannot>
 fn kind_line(words: &[&[u8]]) -> Result<Line, Stop>
     ensures { Gives asked result (kind_line (texts words.now)) }
 {
-    exactly(words, 2, Form::Kind)?;
-    let kind = kind_of(word(words, 1))?;
+    let kind = kind_of(second_of_two(words, Form::Kind)?)?;
     Ok(Line::Kind(kind))
 }
 
 fn pack_line(heap: Global, words: &[&[u8]]) -> Result<Line, Stop>
     ensures { Gives asked result (pack_line (texts words.now)) }
 {
-    at_least(words, 4, Form::Pack)?;
-    let address = address(heap, word(words, 1))?.ok_or(unfit(2, Wanted::Address))?;
-    let pid = pid(word(words, 2))?;
-    let no_ack = no_ack(word(words, 3))?;
+    let [_, address, pid, no_ack, ..] = words else {
+        return Err(Cannot::TooFew(Form::Pack).into());
+    };
+    let address = address_of(heap, address)?.ok_or(unfit(2, Wanted::Address))?;
+    let pid = pid_of(pid)?;
+    let no_ack = no_ack_of(no_ack)?;
     let given = bytes(heap, words, 4)?;
     let payload = Payload::new(&given).ok_or(Cannot::PayloadLength)?;
     Ok(Line::Pack(Fields {
@@ -111,18 +113,24 @@ fn pack_line(heap: Global, words: &[&[u8]]) -> Result<Line, Stop>
 fn read_line(heap: Global, words: &[&[u8]]) -> Result<Line, Stop>
     ensures { Gives asked result (read_line (texts words.now)) }
 {
-    at_least(words, 3, Form::Read)?;
-    let width = width(word(words, 1))?;
-    let bits = bits(word(words, 2))?;
+    let [_, width, bits, ..] = words else {
+        return Err(Cannot::TooFew(Form::Read).into());
+    };
+    let width = width_of(width)?;
+    let bits = bits_of(bits)?;
     let bytes = bytes(heap, words, 3)?;
     Ok(Line::Read { width, bits, bytes })
 }
 
+// Apart from `parse`, so that the grammar follows from this one promise, and not once for each kind of line.
 // The heap goes beside the words, as it goes into each call that allocates: one struct of both would be no plainer.
 fn words_line(heap: Global, words: &[&[u8]]) -> Result<Line, Stop>
     ensures { Gives asked result (line_of (texts words.now)) }
 {
-    let form = form_of(word(words, 0)).ok_or(unfit(1, Wanted::Form))?;
+    let form = words
+        .first()
+        .and_then(|word| form_of(word))
+        .ok_or(unfit(1, Wanted::Form))?;
     match form {
         Form::Kind => kind_line(words),
         Form::Pack => pack_line(heap, words),

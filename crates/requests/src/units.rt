@@ -1,53 +1,56 @@
 // The lines for units and profiles.
 ghost use Rattle.std.specs.Prelude.{◌≡◌};
 ghost use Rattle.words.specs.Split.{texts};
-ghost use Rattle.requests.specs.Lines.{place_of, label_of, register_of, room_of, plain_line, field_line, load_line, command_line, asked, asked_of, Means, Gives};
+ghost use Rattle.requests.specs.Lines.{place_of, label_of, register_of, room_of, word_at, plain_line, field_line, load_line, command_line, asked, asked_of, Means, Gives};
 
 use crate::label::Label;
-use crate::limits::{at_least, exactly, number, unfit};
+use crate::limits::{number, second_of_two, unfit};
 use crate::lines::{Cannot, Form, Line, Stop, UnitLine, Wanted};
 use std::alloc::Global;
-use words::{byte, bytes, word};
+use words::{byte, bytes};
 
 // The reply buffer of a host command where the line says nothing of it: room for STATUS and 32 bytes.
 const USUAL_ROOM: u8 = 33;
 
-fn label(word: &[u8]) -> Result<Label, Cannot>
+fn label_of(word: &[u8]) -> Result<Label, Cannot>
     ensures { Means place_of result (label_of word.now) }
 {
     number(word, 2, Wanted::Label, |n| Label::try_from(n).ok())
 }
 
-fn register(word: &[u8]) -> Result<u8, Cannot>
+fn register_of(word: &[u8]) -> Result<u8, Cannot>
     ensures { result ≡ register_of word.now }
 {
     byte(word).ok_or(unfit(2, Wanted::Register))
 }
 
-// The room for the reply, where the word says it: /R.
-fn room(word: &[u8]) -> Result<Option<u8>, Cannot>
-    ensures { result ≡ room_of word.now }
+// The room for the reply, where the word behind the label says it: /R.
+fn room_of(words: &[&[u8]]) -> Result<Option<u8>, Cannot>
+    ensures { result ≡ room_of (word_at (texts words.now) 2) }
 {
-    let [b'/', digits @ ..] = word else {
-        return Ok(None);
-    };
-    number(digits, 3, Wanted::Room, |n| u8::try_from(n).ok()).map(Some)
+    match words {
+        [_, _, [b'/', digits @ ..], ..] => {
+            number(digits, 3, Wanted::Room, |n| u8::try_from(n).ok()).map(Some)
+        }
+        _ => Ok(None),
+    }
 }
 
 // A line of two words, the second of which names a unit.
 pub(crate) fn plain_line(words: &[&[u8]], form: Form, line: UnitLine) -> Result<Line, Stop>
     ensures { Gives asked result (plain_line form (asked_of line) (texts words.now)) }
 {
-    exactly(words, 2, form)?;
-    let label = label(word(words, 1))?;
+    let label = label_of(second_of_two(words, form)?)?;
     Ok(Line::Unit { label, line })
 }
 
 pub(crate) fn field_line(heap: Global, words: &[&[u8]]) -> Result<Line, Stop>
     ensures { Gives asked result (field_line (texts words.now)) }
 {
-    at_least(words, 2, Form::Field)?;
-    let register = register(word(words, 1))?;
+    let [_, register, ..] = words else {
+        return Err(Cannot::TooFew(Form::Field).into());
+    };
+    let register = register_of(register)?;
     let profile = bytes(heap, words, 2)?;
     Ok(Line::Field { register, profile })
 }
@@ -55,8 +58,10 @@ pub(crate) fn field_line(heap: Global, words: &[&[u8]]) -> Result<Line, Stop>
 pub(crate) fn load_line(heap: Global, words: &[&[u8]]) -> Result<Line, Stop>
     ensures { Gives asked result (load_line (texts words.now)) }
 {
-    at_least(words, 2, Form::Load)?;
-    let label = label(word(words, 1))?;
+    let [_, label, ..] = words else {
+        return Err(Cannot::TooFew(Form::Load).into());
+    };
+    let label = label_of(label)?;
     let profile = bytes(heap, words, 2)?;
     Ok(Line::Unit {
         label,
@@ -67,9 +72,11 @@ pub(crate) fn load_line(heap: Global, words: &[&[u8]]) -> Result<Line, Stop>
 pub(crate) fn command_line(heap: Global, words: &[&[u8]]) -> Result<Line, Stop>
     ensures { Gives asked result (command_line (texts words.now)) }
 {
-    at_least(words, 2, Form::Command)?;
-    let label = label(word(words, 1))?;
-    let (room, from) = room(word(words, 2))?.map_or((USUAL_ROOM, 2), |room| (room, 3));
+    let [_, label, ..] = words else {
+        return Err(Cannot::TooFew(Form::Command).into());
+    };
+    let label = label_of(label)?;
+    let (room, from) = room_of(words)?.map_or((USUAL_ROOM, 2), |room| (room, 3));
     let bytes = bytes(heap, words, from)?;
     Ok(Line::Unit {
         label,

@@ -1,4 +1,5 @@
 pub mod Cuts
+pub mod Decimals
 pub mod Octets
 pub mod Pairs
 pub mod Back

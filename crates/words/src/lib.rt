@@ -7,4 +7,4 @@ mod writing;
 
 pub use reading::{Unread, byte, bytes, decimal, reversed, together};
 pub use split::{word, words};
-pub use writing::{Apart, Joined, Reversed, bytes_read_back, decimal_reads_back};
+pub use writing::{Apart, Joined, Reversed, bytes_read_back, decimal_reads_back, hex};

@@ -46,6 +46,7 @@ pub fn together(heap: Global, word: &[u8]) -> Result<Option<Vec<u8>>, AllocError
 }
 
 // Why words are not read as bytes: one of them, counted from 1, is no byte, or there is no memory.
+// Plain data, which clauses compare: the error of the allocator is not kept, since it says no more than Memory does.
 #[derive(Clone, Copy, Debug, PartialEq, Eq)]
 pub enum Unread {
     NoByte { word: usize },
@@ -72,12 +73,12 @@ impl<T: Drop> From<AllocFailed<T>> for Unread {
 pub fn bytes(heap: Global, words: &[&[u8]], from: usize) -> Result<Vec<u8>, Unread>
     ensures { ReadsBytes result (bytes_from from (drop from (texts words.now))) }
 {
-    let mut out = Vec::new(heap);
-    for (at, word) in words.iter().enumerate().skip(from) {
-        let b = byte(word).ok_or(Unread::NoByte { word: at + 1 })?;
-        out.push(b)?;
-    }
-    Ok(out)
+    words
+        .iter()
+        .enumerate()
+        .skip(from)
+        .map(|(at, word)| byte(word).ok_or(Unread::NoByte { word: at + 1 }))
+        .try_collect(heap)
 }
 
 fn one_more(n: u64, c: u8) -> Option<u64>
@@ -96,11 +97,7 @@ pub fn decimal(word: &[u8]) -> Option<u64>
     if word.is_empty() {
         return None;
     }
-    let mut n = 0;
-    for c in word {
-        n = one_more(n, *c)?;
-    }
-    Some(n)
+    word.iter().try_fold(0, |n, c| one_more(n, *c))
 }
 
 // Bytes in the opposite order: what is written high byte first is often kept low byte first.

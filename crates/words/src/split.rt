@@ -31,7 +31,7 @@ pub fn words<'a>(heap: Global, line: &'a [u8]) -> Result<Vec<&'a [u8]>, AllocErr
         .collect(heap)
 }
 
-// The word at a place, counted from 0; past the last word an empty one.
+// The word at a place, counted from 0; past the last word an empty one, which no line has, so that it stands for none.
 pub fn word<'a>(words: &[&'a [u8]], at: usize) -> &'a [u8]
     ensures { result.now ≡ slice_index_or (texts words.now) at [] }
 {

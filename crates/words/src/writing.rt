@@ -1,12 +1,12 @@
 // Bytes as results write them. Numbers are written as std prints them.
 ghost use Rattle.std.specs.Prelude.{◌≡◌, ℕ, ◌<◌, reverse, Some, Ok};
-ghost use Rattle.words.specs.Numbers.{byte_of, together_of, decimal_of, byte_shown, bytes_shown, digits_shown, decimal_shown};
+ghost use Rattle.words.specs.Numbers.{byte_of, together_of, decimal_of, digit_shown, byte_shown, bytes_shown, digits_shown, decimal_shown};
 ghost use Rattle.words.specs.Split.{words_of};
 ghost use Rattle.words.specs.Bytes.{bytes_from};
 
 use std::fmt;
 
-// Nothing is done: the contract says that bytes read back from their digits, one by one, apart and together.
+// Nothing is done but that the parameter is used: the contract says that bytes read back from their digits, one by one, apart and together.
 pub fn bytes_read_back(bytes: &[u8])
     ensures each { (b : ℕ) → b < 256 → byte_of (byte_shown b) ≡ Some b }
     ensures apart { bytes_from 0 (words_of (bytes_shown bytes.now)) ≡ Ok bytes.now }
@@ -15,17 +15,32 @@ pub fn bytes_read_back(bytes: &[u8])
     let _first = bytes.first();
 }
 
-// Nothing is done: the contract says that a number reads back from its decimal digits.
+// Nothing is done but that the parameter is used: the contract says that a number reads back from its decimal digits.
 pub fn decimal_reads_back(n: u64)
     ensures { decimal_of (decimal_shown n) ≡ Some n }
 {
     let _n = n;
 }
 
+fn digit(d: u8) -> u8
+    requires { d < 16 }
+    ensures { result ≡ digit_shown d }
+{
+    if d < 10 { b'0' + d } else { b'A' + (d - 10) }
+}
+
+// The two digits of a byte, in upper case, for a caller who has no writer. They read back as the byte.
+pub fn hex(b: u8) -> [u8; 2]
+    ensures shown { result ≡ byte_shown b }
+    ensures reads { byte_of result ≡ Some b }
+{
+    [digit(b / 16), digit(b % 16)]
+}
+
 // The three loops below stay apart: one function over any iterator of bytes would need more contract than it saves code.
 
 // Bytes as separate words: a blank and two digits for each.
-#[derive(Clone, Copy)]
+#[derive(Clone, Copy, Debug)]
 pub struct Apart<'a>(pub &'a [u8]);
 
 impl fmt::Display for Apart<'_> {
@@ -40,7 +55,7 @@ impl fmt::Display for Apart<'_> {
 }
 
 // Bytes written together: two digits for each, with no blank.
-#[derive(Clone, Copy)]
+#[derive(Clone, Copy, Debug)]
 pub struct Joined<'a>(pub &'a [u8]);
 
 impl fmt::Display for Joined<'_> {
@@ -55,7 +70,7 @@ impl fmt::Display for Joined<'_> {
 }
 
 // The same in the opposite order: an address is kept low byte first and written high byte first.
-#[derive(Clone, Copy)]
+#[derive(Clone, Copy, Debug)]
 pub struct Reversed<'a>(pub &'a [u8]);
 
 impl fmt::Display for Reversed<'_> {
