@@ -5,5 +5,5 @@ ghost use Rattle.registers.specs.Bits.{bit};
 pub fn stands(byte: u8, place: u8) -> bool
     ensures { result ≡ bit place byte }
 {
-    place < 8 && (byte >> place) % 2 == 1
+    place < 8 && byte >> place & 1 == 1
 }
