@@ -1,7 +1,7 @@
 use registers::Register;
 
 // Why a unit refuses a call; after a refusal nothing has changed.
-#[derive(Clone, Copy)]
+#[derive(Clone, Copy, Debug, PartialEq, Eq)]
 pub enum Refusal {
     // the host sent no byte
     NoCommand,

@@ -3,7 +3,7 @@ use Rattle.std.proofs.Common.{◌≡◌, ℕ, zero, suc, ◌+◌, ◌-◌, ◌*�
 use native.Mathlib.Nat.{mod-one, div-eq_of_lt}
 use lib.Bits.{bit_and, and_shr, and_step, and_le_l}
 use lib.Count.{ones, ones_in, ones_cat}
-use Rattle.std.proofs.lemmas.Bool.{eqb-true, eq-eqb, ne_eqb, le-leb, cases_eq, cases_lt}
+use Rattle.std.proofs.lemmas.Bool.{eqb-true, eq-eqb, ne_eqb, le-leb, cases_eq, cases_lt, and_parts}
 use Rattle.std.proofs.lemmas.Bool.Decides.{nat_tests}
 use Rattle.std.proofs.lemmas.Nat.{mod-pow-add, mod_below}
 use Rattle.profile.specs.Profile.{bit, names, size_at, may_name, names_only, named_below, place}
@@ -84,14 +84,6 @@ or_not : (a b : Bool) → not a || b ≡ true → a ≡ true → b ≡ true
 or_not true b h e = h
 or_not false b h e = absurd (let z : ◌≡◌ {A = ℕ} 0 1 = cc in omega arith)
 
-pub both_left : (a b : Bool) → a && b ≡ true → a ≡ true
-both_left true b h = refl
-both_left false b h = h
-
-pub both_right : (a b : Bool) → a && b ≡ true → b ≡ true
-both_right true b h = h
-both_right false b h = absurd (let z : ◌≡◌ {A = ℕ} 0 1 = cc in omega arith)
-
 not-true : (b : Bool) → not b ≡ true → b ≡ false
 not-true true e = sym e
 not-true false e = refl
@@ -147,8 +139,9 @@ named_is_register : (m n r : ℕ) → names_only m n ≡ true → names m r ≡ 
 unfolding names_only
 named_is_register m zero r t e h = absurd (omega arith)
 named_is_register m (suc n) r t e h =
-    let here : not (names m n) || may_name n ≡ true = both_left _ (names_only m n) t in
-    let rest : names_only m n ≡ true = both_right (not (names m n) || may_name n) _ t in
+    let parts = and_parts (not (names m n) || may_name n) (names_only m n) t in
+    let here : not (names m n) || may_name n ≡ true = parts.0 in
+    let rest : names_only m n ≡ true = parts.1 in
     elim (cases_eq r n) [
       | inl q ↦ subst (λ (k : ℕ). names m k ≡ true → may_name k ≡ true) (sym q) (or_not (names m n) (may_name n) here) e
       | inr ne ↦ named_is_register m n r rest e (omega (arith, ne))
