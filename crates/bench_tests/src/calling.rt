@@ -101,15 +101,15 @@ pub(crate) fn keeps(unit: &mut Bench, start: Start, address: u8) -> bool {
 
 pub(crate) fn keeps_all(unit: &mut Bench, start: Start) -> bool {
     Register::all()
-        .iter()
+        .into_iter()
         .all(|register| keeps(unit, start, register.address()))
 }
 
 // Whether one register reads this value, and all others as they do at the start.
 pub(crate) fn keeps_others(unit: &mut Bench, start: Start, register: u8, value: &[u8]) -> bool {
     Register::all()
-        .iter()
-        .map(|other| other.address())
+        .into_iter()
+        .map(Register::address)
         .filter(|other| *other != register)
         .all(|other| keeps(unit, start, other))
         && reads(unit, register, value)
