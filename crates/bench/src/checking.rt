@@ -69,7 +69,7 @@ impl Bench {
             )
     }
 
-    // Whether a lower enabled pipe has the address in use of the pipe.
+    // Whether a lower enabled pipe has the address in use of the pipe. By `iter`, since a part of an array is a slice, which lends.
     fn is_taken(&self, pipe: Pipe) -> bool
         ensures { result ≡ some_pipe (lower pipe) (same_address self.now.registers pipe) }
     {

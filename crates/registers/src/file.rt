@@ -5,7 +5,8 @@ ghost use Rattle.registers.specs.File.{padded, value_of, byte_of, written, place
 use crate::held::{Registers, Value};
 use crate::register::Register;
 
-// The bytes as a value, with 0 behind them.
+// The bytes as a value, with 0 behind them. `frames` pads to sizes of its own; to share it, one of the two crates would have to
+// stand on the other.
 pub(crate) fn padded(front: &[u8]) -> Value
     requires { length front.now ≤ 5 }
     ensures { result ≡ padded front.now }
