@@ -1,3 +1,4 @@
+pub mod Items
 pub mod Loads
 pub mod Lowest
 pub mod Pipes

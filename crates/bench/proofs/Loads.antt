@@ -1,5 +1,5 @@
 -- What the registers hold after loading.
-use Rattle.std.proofs.Common.{◌≡◌, ℕ, Bool, true, false, cond, not, ◌&&◌, ◌||◌, eqb, List, [], ◌∷◌, Some, None, Ok, Err, Option, Result, sym, refl, ap, ◌∙◌, subst, inl, inr, arith, rules}
+use Rattle.std.proofs.Common.{◌≡◌, ℕ, Bool, true, false, cond, not, ◌||◌, eqb, List, [], ◌∷◌, Some, None, Ok, Err, Option, Result, sym, refl, ap, ◌∙◌, subst, inl, inr, arith, rules}
 use Rattle.std.proofs.lemmas.Bool.{eq-eqb, ne_eqb, cases_eq}
 use Rattle.registers.specs.declared.register.Register.{Register}
 use Rattle.registers.specs.declared.held.Registers.{Registers}
@@ -11,12 +11,6 @@ use Rattle.commands.specs.declared.refusal.Refusal.TheVariants.{Profile, NotAllo
 use Rattle.commands.specs.Refusals.{first_of, unless, kept_or}
 use Rattle.profile.specs.Profile.{sound}
 use Rattle.bench.specs.Loading.{field, refuses, field_refusals, load_refusal, fields_written, load_after, field_or, Fills, FillsAll, Loaded}
-
--- ---- tests
-
-both : (a b : Bool) → not (a && b) ≡ false → a ≡ true
-both true b h = refl
-both false b h = sym h
 
 first_none : (b : Bool) (e : Refusal) (rest : Option Refusal) → cond b (Some e) rest ≡ None → (b ≡ false) × (rest ≡ None)
 first_none true e rest h = absurd (let z : ◌≡◌ {A = ℕ} 0 1 = cc in omega arith)

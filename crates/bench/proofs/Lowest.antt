@@ -1,6 +1,6 @@
 -- The first register with a fault is the lowest.
 use Rattle.std.proofs.Common.{◌≡◌, ℕ, suc, ◌<◌, ◌≤◌, Bool, true, false, cond, ◌&&◌, ◌||◌, eqb, ◌⊎◌, List, [], ◌∷◌, Some, None, Option, sym, refl, subst, inl, inr, arith}
-use Rattle.std.proofs.lemmas.Bool.{eqb-true}
+use Rattle.std.proofs.lemmas.Bool.{eqb-true, and_parts}
 use Rattle.registers.specs.declared.register.Register.{Register}
 use Rattle.registers.specs.declared.held.Registers.{Registers}
 use Rattle.registers.specs.Address.{address_of, registers}
@@ -13,10 +13,6 @@ aligned : ℕ → List Register → Bool
 aligned k [] = true
 aligned k (r ∷ rs) = eqb (address_of r) k && aligned (suc k) rs
 
-split : (a b : Bool) → a && b ≡ true → (a ≡ true) × (b ≡ true)
-split true b h = (refl, h)
-split false b h = absurd (let z : ◌≡◌ {A = ℕ} 0 1 = cc in omega arith)
-
 either : (a b : Bool) → a || b ≡ true → (a ≡ true) ⊎ (b ≡ true)
 either true b h = inl refl
 either false b h = inr h
@@ -26,7 +22,7 @@ module _ (bad : Register → Bool) where
   unfolding aligned among
   above k [] a q m = absurd (let z : ◌≡◌ {A = ℕ} 0 1 = cc in omega arith)
   above k (x ∷ rs) a q m =
-      let s = split (eqb (address_of x) k) (aligned (suc k) rs) a in
+      let s = and_parts (eqb (address_of x) k) (aligned (suc k) rs) a in
       elim (either (eqb (address_of q) (address_of x)) (among q rs) m) [
         | inl e ↦ omega (arith, eqb-true _ _ e, eqb-true _ _ s.0)
         | inr n ↦ omega (arith, above (suc k) rs s.1 q n)
@@ -58,7 +54,7 @@ module _ (bad : Register → Bool) where
   tells k (x ∷ rs) a q m = by (bad x) refl (λ n. tells (suc k) rs parts.1 q n)
     where
       parts : (eqb (address_of x) k ≡ true) × (aligned (suc k) rs ≡ true)
-      parts = split (eqb (address_of x) k) (aligned (suc k) rs) a
+      parts = and_parts (eqb (address_of x) k) (aligned (suc k) rs) a
 
       least : k ≤ address_of q
       least = above k (x ∷ rs) a q m

@@ -6,40 +6,7 @@ ghost use Rattle.bench.specs.Checking.{config_fault, unanswered, en_aa_fault, en
 use crate::unit::Bench;
 use checks::Check;
 use commands::Refusal;
-use registers::{Pipe, Register, Registers};
-
-fn config_fault(file: &Registers, width: usize) -> bool
-    ensures { result ≡ config_fault width file.now }
-{
-    !file.crc_enabled() || file.is_powered() || file.crc_is_wide() != (width == 16)
-}
-
-// Whether the pipe is enabled and lacks its EN_AA bit.
-fn is_unanswered(file: &Registers, pipe: Pipe) -> bool
-    ensures { result ≡ unanswered file.now pipe }
-{
-    file.is_enabled(pipe) && !file.is_acknowledged(pipe)
-}
-
-fn en_aa_fault(file: &Registers) -> bool
-    ensures { result ≡ en_aa_fault file.now }
-{
-    if file.is_receiver() {
-        Pipe::all().iter().any(|pipe| is_unanswered(file, *pipe))
-    } else {
-        is_unanswered(file, Pipe::P0)
-    }
-}
-
-fn en_rxaddr_fault(file: &Registers) -> bool
-    ensures { result ≡ en_rxaddr_fault file.now }
-{
-    if file.is_receiver() {
-        !Pipe::all().iter().any(|pipe| file.is_enabled(*pipe))
-    } else {
-        !file.is_enabled(Pipe::P0)
-    }
-}
+use registers::{Pipe, Register};
 
 // Whether two addresses are alike in their low bytes.
 fn is_alike(a: &[u8], b: &[u8], width: usize) -> bool
@@ -50,74 +17,117 @@ fn is_alike(a: &[u8], b: &[u8], width: usize) -> bool
     a[..width] == b[..width]
 }
 
-// Whether the lower pipe is enabled and has the address in use of the other.
-fn has_address_of(file: &Registers, pipe: Pipe, low: Pipe) -> bool
-    ensures { result ≡ same_address file.now pipe low }
-{
-    file.is_enabled(low)
-        && is_alike(
-            &file.pipe_address(pipe),
-            &file.pipe_address(low),
-            file.address_width(),
-        )
-}
-
-// Whether a lower enabled pipe has the address in use of the pipe.
-fn is_taken(file: &Registers, pipe: Pipe) -> bool
-    ensures { result ≡ some_pipe (lower pipe) (same_address file.now pipe) }
-{
-    Pipe::all()[..usize::from(pipe.index())]
-        .iter()
-        .any(|low| has_address_of(file, pipe, *low))
-}
-
-fn address_fault(file: &Registers, pipe: Pipe) -> bool
-    ensures { result ≡ address_fault file.now pipe }
-{
-    file.is_receiver() && file.is_enabled(pipe) && is_taken(file, pipe)
-}
-
-fn width_fault(file: &Registers, pipe: Pipe) -> bool
-    ensures { result ≡ width_fault file.now pipe }
-{
-    file.is_receiver() && file.is_enabled(pipe) && file.payload_width(pipe) == 0
-}
-
-fn tx_addr_fault(file: &Registers) -> bool
-    ensures { result ≡ tx_addr_fault file.now }
-{
-    !file.is_receiver()
-        && !is_alike(
-            file.value(Register::TxAddr),
-            &file.pipe_address(Pipe::P0),
-            file.address_width(),
-        )
-}
-
-// Whether the register has a fault, for a check of that width.
-fn is_faulty(file: &Registers, register: Register, width: usize) -> bool
-    ensures { result ≡ faulty width file.now register }
-{
-    match register {
-        Register::Config => config_fault(file, width),
-        Register::EnAa => en_aa_fault(file),
-        Register::EnRxaddr => en_rxaddr_fault(file),
-        Register::TxAddr => tx_addr_fault(file),
-        _ => Pipe::all().iter().any(|pipe| {
-            register == pipe.address_register() && address_fault(file, *pipe)
-                || register == pipe.width_register() && width_fault(file, *pipe)
-        }),
+// The faults of single registers.
+impl Bench {
+    // CONFIG, for a check of so many bits.
+    fn config_fault(&self, width: usize) -> bool
+        ensures { result ≡ config_fault width self.now.registers }
+    {
+        !self.registers.crc_enabled()
+            || self.registers.is_powered()
+            || self.registers.crc_is_wide() != (width == 16)
     }
-}
 
-// The lowest register with a fault.
-fn lowest_fault(file: &Registers, width: usize) -> Option<Register>
-    ensures { result ≡ fault_of width file.now }
-{
-    Register::all()
-        .iter()
-        .find(|register| is_faulty(file, **register, width))
-        .copied()
+    // Whether the pipe is enabled and lacks its EN_AA bit.
+    fn is_unanswered(&self, pipe: Pipe) -> bool
+        ensures { result ≡ unanswered self.now.registers pipe }
+    {
+        self.registers.is_enabled(pipe) && !self.registers.is_acknowledged(pipe)
+    }
+
+    fn en_aa_fault(&self) -> bool
+        ensures { result ≡ en_aa_fault self.now.registers }
+    {
+        if self.registers.is_receiver() {
+            Pipe::all().into_iter().any(|pipe| self.is_unanswered(pipe))
+        } else {
+            self.is_unanswered(Pipe::P0)
+        }
+    }
+
+    fn en_rxaddr_fault(&self) -> bool
+        ensures { result ≡ en_rxaddr_fault self.now.registers }
+    {
+        if self.registers.is_receiver() {
+            !Pipe::all()
+                .into_iter()
+                .any(|pipe| self.registers.is_enabled(pipe))
+        } else {
+            !self.registers.is_enabled(Pipe::P0)
+        }
+    }
+
+    // Whether the lower pipe is enabled and has the address in use of the other.
+    fn has_address_of(&self, pipe: Pipe, low: Pipe) -> bool
+        ensures { result ≡ same_address self.now.registers pipe low }
+    {
+        self.registers.is_enabled(low)
+            && is_alike(
+                &self.registers.pipe_address(pipe),
+                &self.registers.pipe_address(low),
+                self.registers.address_width(),
+            )
+    }
+
+    // Whether a lower enabled pipe has the address in use of the pipe. By `iter`, since a part of an array is a slice, which lends.
+    fn is_taken(&self, pipe: Pipe) -> bool
+        ensures { result ≡ some_pipe (lower pipe) (same_address self.now.registers pipe) }
+    {
+        Pipe::all()[..usize::from(pipe.index())]
+            .iter()
+            .any(|low| self.has_address_of(pipe, *low))
+    }
+
+    fn address_fault(&self, pipe: Pipe) -> bool
+        ensures { result ≡ address_fault self.now.registers pipe }
+    {
+        self.registers.is_receiver() && self.registers.is_enabled(pipe) && self.is_taken(pipe)
+    }
+
+    fn width_fault(&self, pipe: Pipe) -> bool
+        ensures { result ≡ width_fault self.now.registers pipe }
+    {
+        self.registers.is_receiver()
+            && self.registers.is_enabled(pipe)
+            && self.registers.payload_width(pipe) == 0
+    }
+
+    fn tx_addr_fault(&self) -> bool
+        ensures { result ≡ tx_addr_fault self.now.registers }
+    {
+        !self.registers.is_receiver()
+            && !is_alike(
+                self.registers.value(Register::TxAddr),
+                &self.registers.pipe_address(Pipe::P0),
+                self.registers.address_width(),
+            )
+    }
+
+    // Whether the register has a fault, for a check of so many bits. The width goes as the number that it is in `Checking`:
+    // with the kind of check as a type parameter each of its callers would be generic for one comparison.
+    fn is_faulty(&self, register: Register, width: usize) -> bool
+        ensures { result ≡ faulty width self.now.registers register }
+    {
+        match register {
+            Register::Config => self.config_fault(width),
+            Register::EnAa => self.en_aa_fault(),
+            Register::EnRxaddr => self.en_rxaddr_fault(),
+            Register::TxAddr => self.tx_addr_fault(),
+            _ => Pipe::all().into_iter().any(|pipe| {
+                register == pipe.address_register() && self.address_fault(pipe)
+                    || register == pipe.width_register() && self.width_fault(pipe)
+            }),
+        }
+    }
+
+    // The lowest register with a fault.
+    fn lowest_fault(&self, width: usize) -> Option<Register>
+        ensures { result ≡ fault_of width self.now.registers }
+    {
+        Register::all()
+            .into_iter()
+            .find(|register| self.is_faulty(*register, width))
+    }
 }
 
 impl Bench {
@@ -126,7 +136,7 @@ impl Bench {
         ensures value { result ≡ fault_of C.Check.W self.now.registers }
         ensures law { LowestFault C.Check.W self.now.registers result }
     {
-        lowest_fault(&self.registers, C::W)
+        self.lowest_fault(C::W)
     }
 
     // The check call: a refusal that names the lowest register with a fault.

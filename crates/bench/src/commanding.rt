@@ -11,15 +11,6 @@ use crate::unit::Bench;
 use commands::{Command, Refusal, decode, reply};
 use registers::{Register, Registers};
 
-// Puts a value into a register; STATUS keeps none, and its flags are clear on the bench.
-fn store(registers: &mut Registers, register: Register, value: &[u8])
-    ensures { registers.new ≡ stored registers.old (write_register register value.now) }
-{
-    if register != Register::Status {
-        registers.write(register, value);
-    }
-}
-
 impl Bench {
     // A new unit: every register at reset.
     pub fn new() -> Bench
@@ -27,6 +18,15 @@ impl Bench {
     {
         Bench {
             registers: Registers::reset(),
+        }
+    }
+
+    // Puts a value into a register; STATUS keeps none, and its flags are clear on the bench.
+    fn store(&mut self, register: Register, value: &[u8])
+        ensures { self.new.registers ≡ stored self.old.registers (write_register register value.now) }
+    {
+        if register != Register::Status {
+            self.registers.write(register, value);
         }
     }
 
@@ -51,7 +51,7 @@ impl Bench {
         if !register.allows(data) {
             return Err(Refusal::NotAllowed(register));
         }
-        store(&mut self.registers, register, data);
+        self.store(register, data);
         reply(buffer, Live::at_rest().status, &[])
     }
 

@@ -6,6 +6,7 @@ ghost use Rattle.bench.specs.Live.{at_rest, shown};
 use crate::live::Live;
 use commands::{Flags, Refusal, fifo_status, observe_tx, reply, status_byte};
 use registers::{Register, Registers};
+use std::slice;
 
 impl Live {
     // No flag stands, nothing was lost, and the queues are empty.
@@ -16,6 +17,19 @@ impl Live {
             status: status_byte(Flags::none(), None, false),
             observe_tx: observe_tx(0, 0),
             fifo_status: fifo_status(0, 0),
+        }
+    }
+
+    // What a register reads: what is live of it, or else what the registers hold.
+    fn shown<'a>(&'a self, registers: &'a Registers, register: Register) -> &'a [u8]
+        ensures { result.now ≡ shown self.now registers.now register }
+    {
+        match register {
+            Register::Status => slice::from_ref(&self.status),
+            Register::ObserveTx => slice::from_ref(&self.observe_tx),
+            Register::Reserved => &[0x00],
+            Register::FifoStatus => slice::from_ref(&self.fifo_status),
+            _ => registers.value(register),
         }
     }
 }
@@ -30,11 +44,5 @@ pub fn reply_register(
     ensures answer { result ≡ reply_answer buffer.old (shown live registers.now register) }
     ensures after { buffer.new ≡ replied buffer.old live.status (shown live registers.now register) }
 {
-    match register {
-        Register::Status => reply(buffer, live.status, &[live.status]),
-        Register::ObserveTx => reply(buffer, live.status, &[live.observe_tx]),
-        Register::Reserved => reply(buffer, live.status, &[0x00]),
-        Register::FifoStatus => reply(buffer, live.status, &[live.fifo_status]),
-        _ => reply(buffer, live.status, registers.value(register)),
-    }
+    reply(buffer, live.status, live.shown(registers, register))
 }

@@ -34,11 +34,8 @@ fn commanded(
     buffer: &mut [u8],
     room: usize,
 ) -> Result<usize, Refusal> {
-    if room < buffer.len() {
-        unit.command(bytes, &mut buffer[0..room])
-    } else {
-        unit.command(bytes, buffer)
-    }
+    let room = room.min(buffer.len());
+    unit.command(bytes, &mut buffer[..room])
 }
 
 // Makes a call, and hands back the unit and the refusal, if there is one.
@@ -71,14 +68,10 @@ pub(crate) fn is_refusal(given: Option<Refusal>, number: u8, register: Option<u8
 
 // Whether a buffer holds a reply with this answer, and behind it what was there.
 pub(crate) fn is_reply(buffer: &[u8], answer: &[u8]) -> bool {
-    buffer.iter().enumerate().all(|(i, b)| {
-        let wanted = if i == 0 {
-            STATUS
-        } else {
-            answer.get(i - 1).copied().unwrap_or(UNTOUCHED)
-        };
-        *b == wanted
-    })
+    buffer
+        .strip_prefix(&[STATUS])
+        .and_then(|rest| rest.strip_prefix(answer))
+        .is_some_and(|rest| rest.iter().all(|b| *b == UNTOUCHED))
 }
 
 // Whether the command is carried out, with a reply of STATUS alone.
@@ -95,7 +88,7 @@ pub(crate) fn reads(unit: &mut Bench, address: u8, value: &[u8]) -> bool {
 
 // Whether the register at an address reads as it does at the start.
 pub(crate) fn keeps(unit: &mut Bench, start: Start, address: u8) -> bool {
-    let Some(row) = READINGS.get(address as usize) else {
+    let Some(row) = READINGS.get(usize::from(address)) else {
         return false;
     };
     let wanted = match start {
@@ -108,15 +101,15 @@ pub(crate) fn keeps(unit: &mut Bench, start: Start, address: u8) -> bool {
 
 pub(crate) fn keeps_all(unit: &mut Bench, start: Start) -> bool {
     Register::all()
-        .iter()
+        .into_iter()
         .all(|register| keeps(unit, start, register.address()))
 }
 
 // Whether one register reads this value, and all others as they do at the start.
 pub(crate) fn keeps_others(unit: &mut Bench, start: Start, register: u8, value: &[u8]) -> bool {
     Register::all()
-        .iter()
-        .map(|other| other.address())
+        .into_iter()
+        .map(Register::address)
         .filter(|other| *other != register)
         .all(|other| keeps(unit, start, other))
         && reads(unit, register, value)

@@ -148,8 +148,8 @@ fn looks_up(row: &Profile) -> bool {
 // Whether each register of the profile reads its field, and each other as it does at the start.
 fn holds(unit: &mut Bench, start: Start, fields: &'static [Field]) -> bool {
     Register::all()
-        .iter()
-        .map(|register| register.address())
+        .into_iter()
+        .map(Register::address)
         .all(|register| match field_of(fields, register) {
             Some(value) => reads(unit, register, value),
             None => keeps(unit, start, register),

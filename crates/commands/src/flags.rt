@@ -1,5 +1,5 @@
 // The flags of a unit: a payload was received, a payload was acknowledged, the last retry was in vain.
-#[derive(Clone, Copy, PartialEq, Eq)]
+#[derive(Clone, Copy, Debug, PartialEq, Eq)]
 pub struct Flags {
     pub rx_dr: bool,
     pub tx_ds: bool,

@@ -1,7 +1,7 @@
 use registers::Register;
 
 // Why a unit refuses a call; after a refusal nothing has changed.
-#[derive(Clone, Copy)]
+#[derive(Clone, Copy, Debug, PartialEq, Eq)]
 pub enum Refusal {
     // the host sent no byte
     NoCommand,
@@ -27,6 +27,7 @@ pub enum Refusal {
     Profile,
     // the check of a bench unit found a fault in this register
     Fault(Register),
-    // the frame's buffer is too short, or its bits go beyond its bytes
+    // the frame's buffer is too short, or its bits go beyond its bytes; `frames` has a refusal of that name, number and text as
+    // well, since neither of the two crates stands on the other
     FrameBytes,
 }

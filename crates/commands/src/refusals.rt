@@ -5,6 +5,7 @@ ghost use Rattle.commands.specs.Texts.{reason, register_name};
 
 use crate::refusal::Refusal;
 use registers::{NoSuchRegister, Register};
+use std::error::Error;
 use std::fmt;
 
 impl Refusal {
@@ -73,3 +74,5 @@ impl fmt::Display for Refusal {
         }
     }
 }
+
+impl Error for Refusal {}

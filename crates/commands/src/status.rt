@@ -4,6 +4,8 @@ ghost use Rattle.commands.specs.Status.{no_flags, status_of, cleared, observed, 
 use crate::flags::Flags;
 use registers::{Pipe, stands};
 
+// The three flags are written out, each with its bit, in the functions that read or make a byte of them: what is promised goes
+// flag by flag, and a byte of all three would have to be told apart into its bits again.
 impl Flags {
     // No flag stands: with none, nothing received, nothing lost and empty queues, a unit shows its reset values.
     pub fn none() -> Flags

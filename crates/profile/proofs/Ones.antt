@@ -1,11 +1,11 @@
 -- The map's bits by counts of ones and by masks.
-use Rattle.std.proofs.Common.{◌≡◌, ℕ, zero, suc, ◌+◌, ◌-◌, ◌*◌, ◌/◌, ◌%◌, ◌^◌, ◌<◌, ◌≤◌, min, Bool, true, false, cond, not, ◌&&◌, ◌||◌, eqb, leb, sym, refl, ap, ◌∙◌, subst, ap₂, inl, inr, ⊎_elim, lt_of_lt_of_le, mod-eq_of_lt, suc-add, one-mul, zero-add, one-add, arith, pow_pos, pow_mono}
+use Rattle.std.proofs.Common.{◌≡◌, ℕ, zero, suc, ◌+◌, ◌-◌, ◌*◌, ◌/◌, ◌%◌, ◌^◌, ◌<◌, ◌≤◌, min, Bool, true, false, cond, not, ◌&&◌, ◌||◌, eqb, leb, sym, refl, ap, ◌∙◌, subst, ap₂, inl, inr, lt_of_lt_of_le, mod-eq_of_lt, suc-add, one-mul, zero-add, one-add, arith, pow_pos, pow_mono}
 use native.Mathlib.Nat.{mod-one, div-eq_of_lt}
 use lib.Bits.{bit_and, and_shr, and_step, and_le_l}
 use lib.Count.{ones, ones_in, ones_cat}
-use Rattle.std.proofs.lemmas.Bool.{eqb-true, eq-eqb, ne_eqb, le-leb, cases_eq, cases_lt}
-use Rattle.std.proofs.lemmas.Bool.Decides.{nat_tests}
+use Rattle.std.proofs.lemmas.Bool.{eqb-true, eq-eqb, ne_eqb, le-leb, cases_eq, cases_lt, and_parts}
 use Rattle.std.proofs.lemmas.Nat.{mod-pow-add, mod_below}
+use Rattle.registers.proofs.Agree.{below_at}
 use Rattle.profile.specs.Profile.{bit, names, size_at, may_name, names_only, named_below, place}
 
 ones_bit : (a : ℕ) → a < 2 → ones a ≡ a
@@ -33,23 +33,9 @@ count m (suc r) = omega (arith, count m r, ones_more m r)
 and_bit : (a b r : ℕ) → bit (bit_and a b) r ≡ min (bit a r) (bit b r)
 and_bit a b r = rw and_shr (omega (arith, and_step (a / 2 ^ r) (b / 2 ^ r)))
 
--- a test that passes at each number below n passes at r
-every : (ℕ → Bool) → ℕ → Bool
-every f zero = true
-every f (suc n) = cond (f n) (every f n) false
-
-at : (f : ℕ → Bool) (n : ℕ) → every f n ≡ true → (r : ℕ) → r < n → f r ≡ true
-unfolding every
-at f zero t r h = absurd (omega arith)
-at f (suc n) t r h =
-    let here : f n ≡ true = grind (arith, nat_tests) in
-    let rest : every f n ≡ true = grind (arith, nat_tests) in
-    ⊎_elim (λ (e : r ≡ n). ap f e ∙ here) (λ ne. at f n rest r (omega (arith, ne))) (cases_eq r n)
-
 -- the mask of wide registers has just those of five bytes, and the others have one: tested at each register
 wide : (r : ℕ) → r < 24 → size_at r ≡ 1 + 4 * bit 0x10C00 r
-unfolding every
-wide r h = eqb-true (size_at r) (1 + 4 * bit 0x10C00 r) (at (λ k. eqb (size_at k) (1 + 4 * bit 0x10C00 k)) 24 refl r h)
+wide r h = eqb-true (size_at r) (1 + 4 * bit 0x10C00 r) (below_at 24 (λ k. eqb (size_at k) (1 + 4 * bit 0x10C00 k)) refl r h)
 
 times : (b w : ℕ) → b < 2 → w < 2 → b * (1 + 4 * w) ≡ b + 4 * min b w
 times zero w h k = omega arith
@@ -84,14 +70,6 @@ or_not : (a b : Bool) → not a || b ≡ true → a ≡ true → b ≡ true
 or_not true b h e = h
 or_not false b h e = absurd (let z : ◌≡◌ {A = ℕ} 0 1 = cc in omega arith)
 
-pub both_left : (a b : Bool) → a && b ≡ true → a ≡ true
-both_left true b h = refl
-both_left false b h = h
-
-pub both_right : (a b : Bool) → a && b ≡ true → b ≡ true
-both_right true b h = h
-both_right false b h = absurd (let z : ◌≡◌ {A = ℕ} 0 1 = cc in omega arith)
-
 not-true : (b : Bool) → not b ≡ true → b ≡ false
 not-true true e = sym e
 not-true false e = refl
@@ -107,8 +85,7 @@ agree false false e = refl
 
 -- the mask of allowed registers has just those that may be named: tested at each bit
 allowed : (r : ℕ) → r < 32 → may_name r ≡ names 0x7FFC7F r
-unfolding every
-allowed r h = agree (may_name r) (names 0x7FFC7F r) (at (λ k. cond (may_name k) (names 0x7FFC7F k) (not (names 0x7FFC7F k))) 32 refl r h)
+allowed r h = agree (may_name r) (names 0x7FFC7F r) (below_at 32 (λ k. cond (may_name k) (names 0x7FFC7F k) (not (names 0x7FFC7F k))) refl r h)
 
 -- one bit more of a number and of the same number masked
 bit_more : (x a p l k : ℕ) → x < 2 → a < 2 → l < p → k < p
@@ -147,17 +124,17 @@ named_is_register : (m n r : ℕ) → names_only m n ≡ true → names m r ≡ 
 unfolding names_only
 named_is_register m zero r t e h = absurd (omega arith)
 named_is_register m (suc n) r t e h =
-    let here : not (names m n) || may_name n ≡ true = both_left _ (names_only m n) t in
-    let rest : names_only m n ≡ true = both_right (not (names m n) || may_name n) _ t in
+    let parts = and_parts (not (names m n) || may_name n) (names_only m n) t in
+    let here : not (names m n) || may_name n ≡ true = parts.0 in
+    let rest : names_only m n ≡ true = parts.1 in
     elim (cases_eq r n) [
       | inl q ↦ subst (λ (k : ℕ). names m k ≡ true → may_name k ≡ true) (sym q) (or_not (names m n) (may_name n) here) e
       | inr ne ↦ named_is_register m n r rest e (omega (arith, ne))
     ]
 
 above : (r : ℕ) → r < 32 → 24 ≤ r → may_name r ≡ false
-unfolding every
 above r h l =
-    let t = at (λ k. cond (leb 24 k) (not (may_name k)) true) 32 refl r h in
+    let t = below_at 32 (λ k. cond (leb 24 k) (not (may_name k)) true) refl r h in
     not-true (may_name r) (sym (ap (λ (b : Bool). cond b (not (may_name r)) true) (le-leb 24 r l)) ∙ t)
 
 -- a sound map names no register that is not there

@@ -1,16 +1,21 @@
 -- What is known of a sound profile.
 use Rattle.std.proofs.Common.{◌≡◌, ℕ, ◌+◌, ◌^◌, ◌<◌, ◌≤◌, Bool, true, false, cond, ◌&&◌, eqb, leb, List, length, take, drop, Some, None, Ok, Err, sym, ap, ◌∙◌, arith}
-use Rattle.std.proofs.lemmas.Bool.{eqb-true}
+use Rattle.std.proofs.lemmas.Bool.{eqb-true, and_parts}
 use Rattle.commands.specs.declared.refusal.Refusal.TheVariants.{Profile}
 use Rattle.profile.specs.Profile.{map_of, bit, names, names_only, place, size_at, sound, if_sound, field_of}
-use Rattle.profile.proofs.Ones.{both_left, both_right, within, none_above}
+use Rattle.profile.proofs.Ones.{within, none_above}
 
 module _ (p : List ℕ) (s : sound p ≡ true) where
+  parts : (names_only (map_of p) 32 ≡ true) × (eqb (length p) (place (map_of p) 24) ≡ true)
+  parts =
+      and_parts (names_only (map_of p) 32) (eqb (length p) (place (map_of p) 24))
+      (and_parts (leb 4 (length p)) (names_only (map_of p) 32 && eqb (length p) (place (map_of p) 24)) s).1
+
   only : names_only (map_of p) 32 ≡ true
-  only = both_left (names_only (map_of p) 32) (eqb (length p) (place (map_of p) 24)) (both_right (leb 4 (length p)) (names_only (map_of p) 32 && eqb (length p) (place (map_of p) 24)) s)
+  only = parts.0
 
   long : length p ≡ place (map_of p) 24
-  long = eqb-true (length p) (place (map_of p) 24) (both_right (names_only (map_of p) 32) (eqb (length p) (place (map_of p) 24)) (both_right (leb 4 (length p)) (names_only (map_of p) 32 && eqb (length p) (place (map_of p) 24)) s))
+  long = eqb-true (length p) (place (map_of p) 24) parts.1
 
   -- a named field lies within the profile
   pub inside : (r : ℕ) → r < 24 → true ≡ names (map_of p) r → place (map_of p) r + size_at r ≤ length p

@@ -44,6 +44,8 @@ impl<'a> Profile<'a> {
     }
 }
 
+// The calls on a profile's bytes, for those who ask one thing of them and keep no `Profile`.
+
 // How many registers a profile names.
 pub fn number_of_fields(profile: &[u8]) -> Result<u32, Refusal>
     ensures { result ≡ if_sound profile.now (named_below (map_of profile.now) 24) }

@@ -5,6 +5,9 @@ ghost use Rattle.profile.specs.Profile.{names, names_only, named_below, place};
 
 use registers::Register;
 
+// Two masks beside the table of registers, proved to say what it says: so a place is two counts of ones, and what a map may name
+// one comparison, with no way through the table.
+
 // The registers of five bytes.
 const WIDE: u32 = 0x0001_0C00;
 

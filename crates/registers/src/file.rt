@@ -1,11 +1,12 @@
 ghost use Rattle.std.specs.Prelude.{◌≡◌, ◌≤◌, length, slice_index};
 ghost use Rattle.registers.specs.Table.{size_of};
-ghost use Rattle.registers.specs.File.{padded, value_of, byte_of, written, at_reset, Holds, StartsAllowed};
+ghost use Rattle.registers.specs.File.{padded, value_of, byte_of, written, places, at_reset, Holds, StartsAllowed};
 
 use crate::held::{Registers, Value};
 use crate::register::Register;
 
-// The bytes as a value, with 0 behind them.
+// The bytes as a value, with 0 behind them. `frames` pads to sizes of its own; to share it, one of the two crates would have to
+// stand on the other.
 pub(crate) fn padded(front: &[u8]) -> Value
     requires { length front.now ≤ 5 }
     ensures { result ≡ padded front.now }
@@ -26,6 +27,13 @@ impl Registers {
         }
     }
 
+    // How many registers the file has.
+    pub fn count(&self) -> usize
+        ensures { (result ≡ 24) × (length self.now.held ≡ 24) }
+    {
+        self.held.len()
+    }
+
     // The bytes that a register holds, the lowest first.
     pub fn value(&self, register: Register) -> &[u8]
         ensures value { result.now ≡ value_of self.now register }
@@ -40,7 +48,14 @@ impl Registers {
     pub fn byte(&self, register: Register) -> u8
         ensures { result ≡ byte_of self.now register }
     {
-        self.held[usize::from(register.address())].bytes[0]
+        self.wide(register)[0]
+    }
+
+    // The five places of a register: the bytes that it holds, and 0 behind them. Of a five-byte one they are its value.
+    pub fn wide(&self, register: Register) -> [u8; 5]
+        ensures { result ≡ places self.now register }
+    {
+        self.held[usize::from(register.address())].bytes
     }
 
     // Puts `value` into a register, and leaves all others as they are; a value of another size changes nothing.

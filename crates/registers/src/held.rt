@@ -1,4 +1,5 @@
-// The value of one register: its bytes, the lowest first, and 0 behind them.
+// The value of one register: its bytes, the lowest first, and 0 behind them. Fixed memory, since the engine allocates nothing;
+// how many of the bytes count is the size in the table of registers, so no length stands beside them.
 #[derive(Clone, Copy)]
 pub(crate) struct Value {
     pub(crate) bytes: [u8; 5],

@@ -1,5 +1,5 @@
 // The six pipes of a receiver; a sender uses P0.
-#[derive(Clone, Copy, PartialEq, Eq)]
+#[derive(Clone, Copy, Debug, PartialEq, Eq)]
 pub enum Pipe {
     P0,
     P1,
@@ -14,7 +14,7 @@ pub enum Pipe {
 pub struct NoSuchPipe;
 
 // The rate of the radio.
-#[derive(Clone, Copy, PartialEq, Eq)]
+#[derive(Clone, Copy, Debug, PartialEq, Eq)]
 pub enum Rate {
     Kbps250,
     Mbps1,

@@ -1,8 +1,10 @@
-ghost use Rattle.std.specs.Prelude.{◌≡◌, ◌<◌, Some};
+ghost use Rattle.std.specs.Prelude.{◌≡◌, ◌<◌, Some, codes};
 ghost use Rattle.registers.specs.Pipes.{index_of, pipes, pipe_at, HasNumber, address_register, width_register};
 
 use crate::pipe::{NoSuchPipe, Pipe};
 use crate::register::Register;
+use std::error::Error;
+use std::fmt;
 
 impl Pipe {
     // Every pipe, by ascending number.
@@ -64,3 +66,13 @@ impl TryFrom<u8> for Pipe {
             .ok_or(NoSuchPipe)
     }
 }
+
+impl fmt::Display for NoSuchPipe {
+    ghost output = { λ _. Some (codes "no pipe has the number") };
+
+    fn fmt<W: fmt::Write>(&self, f: &mut fmt::Formatter<W>) -> fmt::Result {
+        f.write_str("no pipe has the number")
+    }
+}
+
+impl Error for NoSuchPipe {}

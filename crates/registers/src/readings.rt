@@ -10,7 +10,7 @@ use crate::held::Registers;
 use crate::pipe::{Pipe, Rate};
 use crate::register::Register;
 
-// CONFIG: 3 EN_CRC, 2 CRCO, 1 PWR_UP, 0 PRIM_RX; its bits 6, 5, 4 mask the interrupts.
+// Single bits of a register, and those of CONFIG: 3 EN_CRC, 2 CRCO, 1 PWR_UP, 0 PRIM_RX; its bits 6, 5, 4 mask the interrupts.
 impl Registers {
     // Whether the bit at `place` stands in the register's lowest byte.
     fn bit(&self, register: Register, place: u8) -> bool
@@ -50,6 +50,7 @@ impl Registers {
 
 impl Registers {
     // How many low bytes of an address are in use: SETUP_AW and two more. A value that may not be written reads as the widest.
+    // A number, since registers stand below frames, whose type of address widths is not known here.
     pub fn address_width(&self) -> usize
         ensures value { result ≡ width_of (byte_of self.now SetupAw) }
         ensures bounds { (3 ≤ result) × (result ≤ 5) }
@@ -117,14 +118,13 @@ impl Registers {
     pub fn pipe_address(&self, pipe: Pipe) -> [u8; 5]
         ensures { result ≡ pipe_address self.now pipe }
     {
-        let mut address = [0; 5];
         match pipe {
-            Pipe::P0 | Pipe::P1 => address.copy_from_slice(self.value(pipe.address_register())),
+            Pipe::P0 | Pipe::P1 => self.wide(pipe.address_register()),
             _ => {
-                address.copy_from_slice(self.value(Register::RxAddrP1));
+                let mut address = self.wide(Register::RxAddrP1);
                 address[0] = self.byte(pipe.address_register());
+                address
             }
         }
-        address
     }
 }

@@ -1,5 +1,5 @@
 // The registers, in the order of their addresses, 00 to 17 (hexadecimal). There is no register at 18 to 1F.
-#[derive(Clone, Copy, PartialEq, Eq)]
+#[derive(Clone, Copy, PartialEq, Eq, Debug)]
 pub enum Register {
     Config,
     EnAa,

@@ -1,4 +1,4 @@
-ghost use Rattle.std.specs.Prelude.{◌≡◌, true, ◌⊎◌, Some};
+ghost use Rattle.std.specs.Prelude.{◌≡◌, true, ◌⊎◌, Some, codes};
 ghost use Rattle.registers.specs.Address.{address_of, registers, StandsAt};
 ghost use Rattle.registers.specs.File.{initial};
 ghost use Rattle.registers.specs.Table.{name_of, size_of, takes, is_read_only, entry_at, table};
@@ -8,6 +8,7 @@ use crate::file::padded;
 use crate::held::Value;
 use crate::register::{NoSuchRegister, Register};
 use crate::row::{Allowed, Row};
+use std::error::Error;
 use std::{array, fmt};
 
 // Every register, by its address.
@@ -281,3 +282,13 @@ impl fmt::Display for Register {
         f.write_str(self.name())
     }
 }
+
+impl fmt::Display for NoSuchRegister {
+    ghost output = { λ _. Some (codes "no register has the address") };
+
+    fn fmt<W: fmt::Write>(&self, f: &mut fmt::Formatter<W>) -> fmt::Result {
+        f.write_str("no register has the address")
+    }
+}
+
+impl Error for NoSuchRegister {}

@@ -1,7 +1,6 @@
 use Rattle.std.proofs.Common.{◌≡◌, Bool, true, false, cond, Some, List, [], ◌∷◌, ℕ, refl, ap, ◌∙◌, rules, tests}
 use Rattle.std.specs.List.{find}
 use Rattle.std.specs.Option.{option_map}
-use Rattle.std.proofs.lemmas.Iterator.{YieldsList-from_slice}
 use Rattle.std.proofs.lemmas.Iterator.Search.{find_from_yields_List}
 use Rattle.registers.specs.declared.register.Register.{Register}
 use Rattle.registers.specs.Address.{registers}
@@ -9,6 +8,7 @@ use Rattle.commands.specs.declared.refusal.Refusal.TheVariants.{NotAllowed}
 use Rattle.commands.specs.Refusals.{first_of}
 use Rattle.profile.specs.Reading.{bytes_of}
 use Rattle.bench.specs.Loading.{field, refuses, field_refusals}
+use Rattle.bench.proofs.Items.{from_array, same}
 use Rattle.bench.proofs.loading.refused_field.Goals as goal
 
 -- the refusal of the first register that refuses is the first refusal
@@ -25,5 +25,5 @@ first_refused p (r ∷ rs) = by (refuses r (field p r)) (first_refused p rs)
 pub returns : goal.returns
 returns c =
     let p = bytes_of c.args.profile.now in
-    let h = find_from_yields_List (λ r. refuses r (field p r)) _ _ _ c.find.ensures.ran (YieldsList-from_slice registers cc) (λ x b q k. search (rules, tests)) in
-    ap (option_map (λ r. NotAllowed r)) (c.copied.ensures ∙ h) ∙ first_refused p registers
+    let h = find_from_yields_List (λ r. refuses r (field p r)) _ _ c.find.result c.find.ensures.ran (from_array registers cc) (λ x b q k. search (rules, tests)) in
+    ap (option_map (λ r. NotAllowed r)) (same c.find.result ∙ h) ∙ first_refused p registers

@@ -5,12 +5,12 @@ use Rattle.commands.specs.declared.refusal.Refusal.TheVariants.{NotAllowed}
 use Rattle.commands.specs.Refusals.{first_of}
 use Rattle.bench.specs.Loading.{field_refusals, fields_written, FillsAll}
 use Rattle.bench.proofs.Loads.{refuses_all, loads_all, in_fields}
-use Rattle.bench.proofs.loading.load.Goals as goal
+use Rattle.bench.proofs.unit.Bench.load_here.Goals as goal
 
 pub returns-in-Some : goal.returns-in-Some
 returns-in-Some c =
     let p = c.args.profile.now in
-    let f = c.args.file.now in
+    let f = c.args.self.now.registers in
     let r = NotAllowed c.in-Some.register in
     let n : Some r ≡ first_of (field_refusals p registers) =
     subst (λ (b : List ℕ). Some r ≡ first_of (field_refusals b registers)) c.in_ok-profile.ensures.0 c.in-Some.ensures in
@@ -20,8 +20,8 @@ returns-in-Some c =
 pub returns : goal.returns
 returns c =
     let p = c.args.profile.now in
-    let f = c.args.file.now in
-    let g = c.write_fields.new.file in
+    let f = c.args.self.now.registers in
+    let g = c.write_fields.new.self.registers in
     let w : (g ≡ fields_written registers p f) × FillsAll p f g × (first_of (field_refusals p registers) ≡ None) =
     subst (λ (b : List ℕ). (g ≡ fields_written registers b f) × FillsAll b f g × (first_of (field_refusals b registers) ≡ None)) c.in_ok-profile.ensures.0
     (c.write_fields.ensures.after, c.write_fields.ensures.law, sym (ap (option_map (λ r. NotAllowed r)) (sym c.in_default.is) ∙ c.refused_field.ensures)) in

@@ -7,14 +7,14 @@ use Rattle.registers.specs.declared.held.Registers.{Registers}
 use Rattle.profile.specs.Reading.{bytes_of}
 use Rattle.bench.specs.Loading.{fields_written}
 use Rattle.bench.proofs.Loads.{held_after, filled, all_filled}
-use Rattle.bench.proofs.loading.write_fields.Goals as goal
+use Rattle.bench.proofs.unit.Bench.write_fields.Goals as goal
 
 pub loop-register-preserved : goal.loop-register-preserved
 loop-register-preserved c =
     let p = bytes_of c.args.profile.now in
     let all = c.all-register-items.result in
     let i = c.loop-register.register-index in
-    let f = c.loop-register.file in
+    let f = c.loop-register.self.registers in
     let r = get_or all i Config in
     let rest = drop (i + 1) all in
     let l : length all ≡ 24 = ap length c.all-register-items.ensures in
@@ -22,7 +22,7 @@ loop-register-preserved c =
       c.loop-register.invariant.0 ∙ ap (λ (rs : List Register). fields_written rs p f) next
           ∙ ap (λ (g : Registers). fields_written rest p g) (sym c.write_field.ensures.after),
       λ n q.
-          filled p f c.write_field.new.file r rest c.write_field.ensures.law (n r) q ∙ ap (λ (rs : List Register). held_after p rs f q) (sym next)
+          filled p f c.write_field.new.self.registers r rest c.write_field.ensures.law (n r) q ∙ ap (λ (rs : List Register). held_after p rs f q) (sym next)
           ∙ c.loop-register.invariant.1 n q,
     )
 
@@ -31,5 +31,5 @@ returns-clause-law c =
     let all = c.all-register-items.result in
     let l : length all ≡ 24 = ap length c.all-register-items.ensures in
     λ n q.
-    all_filled (bytes_of c.args.profile.now) c.args.file.now c.loop-register.file (drop c.loop-register.register-index all) all
+    all_filled (bytes_of c.args.profile.now) c.args.self.now.registers c.loop-register.self.registers (drop c.loop-register.register-index all) all
     (drop_all c.loop-register.register-index all (omega (arith, l))) c.all-register-items.ensures q (c.loop-register.invariant.1 n q)
