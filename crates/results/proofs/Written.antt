@@ -27,14 +27,14 @@ no_bit [] e = refl
 no_bit (b ∷ l) e = absurd (omega (arith, e))
 
 -- the first bit of an address, by its last byte
-pub first_bit : (low_first : List ℕ) (last : Option (Bor ℕ)) (b : Bool) → option_copied last ≡ slice_get low_first (length low_first - 1)
-    → MatchOption last (b ≡ false) (λ x. b ≡ get_or (bits (x.now ∷ [])) 0 false) → b ≡ get_or (bits (reverse low_first)) 0 false
-first_bit low_first (Some high) b is test =
+pub first_bit : (low_first : List ℕ) (last : Option (Bor ℕ)) (b : Bool) (Tests : Bor ℕ → Type 0) → option_copied last ≡ slice_get low_first (length low_first - 1)
+    → MatchOption last (b ≡ false) Tests → ((x : Bor ℕ) → Tests x → b ≡ get_or (bits (x.now ∷ [])) 0 false) → b ≡ get_or (bits (reverse low_first)) 0 false
+first_bit low_first (Some high) b Tests is test meaning =
     let some = slice_get_within low_first (length low_first - 1) high.now (sym is) in
     let turned : get_or (reverse low_first) 0 0 ≡ high.now =
     get_or-reverse low_first 0 0 (omega (arith, some)) ∙ ap (λ i. get_or low_first i 0) (omega arith) ∙ get_or_from_slice_get low_first (length low_first - 1) high.now 0 (sym is) in
-    test ∙ by_byte (reverse low_first) high.now (omega (arith, some, length-reverse low_first)) turned
-first_bit low_first None b is test =
+    meaning high test ∙ by_byte (reverse low_first) high.now (omega (arith, some, length-reverse low_first)) turned
+first_bit low_first None b Tests is test meaning =
     elim (length low_first) as (λ n. length low_first ≡ n → b ≡ get_or (bits (reverse low_first)) 0 false) [
       | zero ↦ λ e. test ∙ no_bit low_first e
       | suc n ↦ λ e. let there = slice_get-get_or low_first (length low_first - 1) 0 (omega (arith, e)) in let z : ◌≡◌ {A = ℕ} 0 1 = cc in absurd (omega arith)
