@@ -8,7 +8,7 @@ use std::fmt;
 use words::Apart;
 
 // A profile: a line for each register that it names, with its address, its name and its bytes. Nothing where map or length are wrong.
-#[derive(Clone, Copy)]
+#[derive(Clone, Copy, Debug, PartialEq, Eq)]
 pub struct ProfileRows<'a>(pub &'a [u8]);
 
 impl fmt::Display for ProfileRows<'_> {

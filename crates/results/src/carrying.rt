@@ -24,7 +24,7 @@ pub enum Answer<'a> {
 }
 
 // The first bits of a frame, for a reader of addresses of that width. It prints what the reader finds, field by field.
-#[derive(Clone, Copy)]
+#[derive(Clone, Copy, Debug, PartialEq, Eq)]
 pub struct Reading<'a> {
     pub kind: Kind,
     pub frame: &'a [u8],

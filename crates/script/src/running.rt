@@ -124,7 +124,7 @@ impl Console {
         }
     }
 
-    // The number of the next line, and its result. Of a String it is proved what is printed to it.
+    // The number and the result of the next line. They go to a String, of which it is known what `write!` adds.
     fn taken(&mut self, heap: Global, line: &[u8]) -> Result<String, AllocError>
         ensures state { OnOk result (self.new ≡ after self.old (words_of line.now)) }
         ensures text { IfOk result (λ s. string_bytes s ≡ printed self.old (words_of line.now)) }
