@@ -27,11 +27,10 @@ impl fmt::Display for Refused {
         let Refused(refusal) = *self;
         let number = refusal.number();
         match refusal.register() {
-            Some(register) => write!(
-                f,
-                "refused {number}{} ({refusal})",
-                Apart(&[register.address()])
-            ),
+            Some(register) => {
+                let address = register.address();
+                write!(f, "refused {number} {address:02X} ({refusal})")
+            }
             None => write!(f, "refused {number} ({refusal})"),
         }
     }
@@ -62,6 +61,7 @@ impl fmt::Display for Said<'_> {
 // What the unit under a label lacks to do what a line asks.
 #[derive(Clone, Copy, Debug, PartialEq, Eq)]
 pub struct Lacking {
+    // a number, as `requests::Cannot` has it
     pub label: u8,
     pub lack: Lack,
 }

@@ -1,2 +1,2 @@
-pub mod Replies
+pub mod Bench
 pub mod Kept

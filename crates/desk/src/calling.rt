@@ -1,7 +1,9 @@
 // What a line does to a unit.
-ghost use Rattle.std.specs.Prelude.{◌≡◌, Some};
+ghost use Rattle.std.specs.Prelude.{◌≡◌, Some, Ok, Err, MatchResult};
+ghost use Rattle.std.specs.Borrow.{sem};
 ghost use Rattle.commands.specs.Decode.{ordered};
 ghost use Rattle.bench.specs.Commands.{registers_after};
+ghost use Rattle.desk.specs.Lending.{on_bench, LendsBench};
 ghost use Rattle.desk.specs.Slots.{said_of, Says, result_said, reply_said, loaded, load_said, check_said, in_box, box_said, irq_said, commanded, command_said};
 
 use crate::answer::{UnitAnswer, UnitResult};
@@ -19,7 +21,7 @@ fn command_bench(unit: &mut Bench, room: u8, bytes: &[u8]) -> UnitResult
     ensures answer { said_of result ≡ reply_said unit.old.registers room bytes.now }
 {
     let mut buffer = [0; 255];
-    let length = unit.command(bytes, &mut buffer[0..room as usize])?;
+    let length = unit.command(bytes, &mut buffer[..usize::from(room)])?;
     Ok(UnitAnswer::Reply { length, buffer })
 }
 
@@ -31,19 +33,26 @@ fn done(carried: Result<(), Refusal>) -> UnitResult
 }
 
 impl<C: Check> AnyUnit<C> {
+    // The unit, while it is on the bench; lent for a change, so `check`, which only reads, has a match of its own.
+    fn bench(&mut self) -> Result<&mut Bench, Lack>
+        ensures* writes_back { sem 𝓛 (LendsBench C.row self.entry result) }
+        ensures value { MatchResult result (λ x. on_bench self.old ≡ Ok x.now) (λ e. on_bench self.old ≡ Err e) }
+    {
+        match self {
+            AnyUnit::Bench(unit) => Ok(unit),
+            AnyUnit::Boxed(_) => Err(Lack::IsBoxed),
+        }
+    }
+
     // Loading uses the bench unit up and gives it back, so a new one stands in its place meanwhile.
     pub(crate) fn load(&mut self, profile: &[u8]) -> Result<UnitResult, Lack>
         ensures after { Some self.new ≡ loaded profile.now (Some self.old) }
         ensures answer { Says result (load_said profile.now (Some self.old)) }
     {
-        match self {
-            AnyUnit::Bench(unit) => {
-                let (loaded, result) = replace(unit, Bench::new()).load(profile);
-                *unit = loaded;
-                Ok(done(result))
-            }
-            AnyUnit::Boxed(_) => Err(Lack::IsBoxed),
-        }
+        let unit = self.bench()?;
+        let (loaded, result) = replace(unit, Bench::new()).load(profile);
+        *unit = loaded;
+        Ok(done(result))
     }
 
     pub(crate) fn check(&self) -> Result<UnitResult, Lack>
@@ -60,14 +69,9 @@ impl<C: Check> AnyUnit<C> {
         ensures after { Some self.new ≡ in_box C.Check.W (Some self.old) }
         ensures answer { Says result (box_said (Some self.old)) }
     {
-        match self {
-            AnyUnit::Bench(unit) => {
-                let unit = replace(unit, Bench::new());
-                *self = AnyUnit::Boxed(Boxed::new(unit));
-                Ok(Ok(UnitAnswer::Done))
-            }
-            AnyUnit::Boxed(_) => Err(Lack::IsBoxed),
-        }
+        let unit = replace(self.bench()?, Bench::new());
+        *self = AnyUnit::Boxed(Boxed::new(unit));
+        Ok(Ok(UnitAnswer::Done))
     }
 
     pub(crate) fn irq(&self) -> Result<UnitResult, Lack>

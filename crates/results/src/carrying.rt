@@ -13,8 +13,8 @@ use requests::{Cannot, Kind, Line};
 #[derive(Drop)]
 pub enum Answer<'a> {
     Done,
-    // A frame of so many bits, at the front of a buffer. Its bytes would not tell how many bits it has, so a Vec would stand beside
-    // the bit count too, and would make packing fail for want of memory.
+    // A frame of so many bits, at the front of a buffer. Its bytes would not tell how many bits it has, so a Vec or an ArrayVec
+    // would stand beside the bit count too; and a Vec would make packing fail for want of memory.
     Frame { bits: usize, buffer: [u8; 42] },
     // what a reader finds, if it finds a packet
     Read(Result<Option<Heard>, frames::Refusal>),
@@ -24,7 +24,7 @@ pub enum Answer<'a> {
 }
 
 // The first bits of a frame, for a reader of addresses of that width. It prints what the reader finds, field by field.
-#[derive(Clone, Copy)]
+#[derive(Clone, Copy, Debug, PartialEq, Eq)]
 pub struct Reading<'a> {
     pub kind: Kind,
     pub frame: &'a [u8],
@@ -63,6 +63,7 @@ fn packed<'a>(kind: Kind, fields: &Fields) -> Answer<'a>
     Answer::Frame { bits, buffer }
 }
 
+// Apart from `carry_out`, so that what stays as it was follows from one promise and not once for each line.
 fn done_with<'a>(units: &mut Units, line: &'a Line) -> Result<Answer<'a>, Cannot>
     ensures answer { Means outcome_of result (carried units.old (asked line.now)) }
     ensures units { units.new ≡ units_after_request units.old (asked line.now) }

@@ -16,9 +16,7 @@ use words::{Apart, Joined, Reversed};
 fn begins_with_one(low_first: &[u8]) -> bool
     ensures { result ≡ slice_index_or (bits (reverse low_first.now)) 0 false }
 {
-    low_first
-        .last()
-        .is_some_and(|high| bit_at(&[*high], 0))
+    low_first.last().is_some_and(|high| bit_at(&[*high], 0))
 }
 
 fn preamble(first: bool) -> &'static str
@@ -52,6 +50,7 @@ impl fmt::Display for Check {
     ghost output = { λ x. Some (check_row x.kind x.check) };
 
     fn fmt<W: fmt::Write>(&self, f: &mut fmt::Formatter<W>) -> fmt::Result {
+        // byte by byte: std proves what `{:02X}` writes of a byte, but not what `{:04X}` writes of two
         let [high, low] = self.check.to_be_bytes();
         match self.kind {
             Kind::Crc8 => writeln!(

@@ -7,7 +7,7 @@ use std::alloc::{AllocError, Global};
 use std::io;
 use std::io::{BufRead, BufReader, Read, Write};
 
-// Why a script is not read to its end.
+// Why a script is not read to its end. No Display: what is printed names the script, which is not known here.
 #[derive(Drop)]
 pub enum Halt {
     Input(io::Error),
@@ -35,7 +35,8 @@ where
 {
     let mut input = BufReader::new(heap, input).map_err(|_| Halt::Memory)?;
     let mut line = Vec::new(heap);
-    let mut text = String::new(heap);
+    let mut text = Vec::new(heap);
+    // Each loop is proved to end, so this one counts; no script has that many lines.
     for _ in 0..u64::MAX {
         line.clear();
         text.clear();
@@ -43,7 +44,7 @@ where
             break;
         }
         console.take(heap, &line, &mut text)?;
-        out.write_all(text.as_bytes()).map_err(Halt::Output)?;
+        out.write_all(&text).map_err(Halt::Output)?;
     }
     Ok(())
 }

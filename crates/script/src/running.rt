@@ -1,5 +1,5 @@
 // The console: the units, the check in force, and the lines so far.
-ghost use Rattle.std.specs.Prelude.{◌≡◌, ◌++◌, Ok, Err, codes, Some, OnOk, string_bytes};
+ghost use Rattle.std.specs.Prelude.{◌≡◌, ◌++◌, Ok, Err, codes, Some, OnOk, IfOk, string_bytes};
 ghost use Rattle.words.specs.Split.{texts, words_of};
 ghost use Rattle.requests.specs.Lines.{asked, line_of};
 ghost use Rattle.results.specs.Outcomes.{outcome_of};
@@ -29,28 +29,26 @@ impl fmt::Display for Explained<'_> {
         let kind = self.kind;
         match (self.line, self.answer) {
             (Line::Pack(fields), Answer::Frame { bits, buffer }) => {
-                let (count, width) = (*bits, fields.address.width());
                 let reading = Reading {
                     kind,
                     frame: buffer,
-                    count,
-                    width,
+                    count: *bits,
+                    width: fields.address.width(),
                 };
                 write!(f, "{reading}")
             }
             (Line::Read { width, bits, bytes }, _) => {
-                let (count, width) = (usize::from(*bits), *width);
                 let reading = Reading {
                     kind,
                     frame: bytes,
-                    count,
-                    width,
+                    count: usize::from(*bits),
+                    width: *width,
                 };
                 write!(f, "{reading}")
             }
-            (Line::Field { profile, .. }, _) => write!(f, "{}", ProfileRows(profile)),
             (
-                Line::Unit {
+                Line::Field { profile, .. }
+                | Line::Unit {
                     line: UnitLine::Load { profile },
                     ..
                 },
@@ -120,22 +118,34 @@ impl Console {
         match parse(heap, words) {
             Ok(line) => self.carry(&line, out),
             Err(Stop::Cannot(cannot)) => self.refuse(cannot, out),
-            // no `?`: of the two reasons why a line goes no further only this one ends the run
+            // no `?`: of the two reasons why a line goes no further only this one ends the run; `Stop` is plain data and carries no
+            // `AllocError`, which says nothing more than its name
             Err(Stop::Memory) => Err(AllocError),
         }
     }
 
-    // Takes the next line of the script: carries it out, and adds its number and result to the output.
-    pub fn take(&mut self, heap: Global, line: &[u8], out: &mut String) -> Result<(), AllocError>
+    // The number and the result of the next line. They go to a String, of which it is known what `write!` adds.
+    fn taken(&mut self, heap: Global, line: &[u8]) -> Result<String, AllocError>
         ensures state { OnOk result (self.new ≡ after self.old (words_of line.now)) }
-        ensures text { OnOk result (string_bytes out.new ≡ string_bytes out.old ++ (printed self.old (words_of line.now))) }
+        ensures text { IfOk result (λ s. string_bytes s ≡ printed self.old (words_of line.now)) }
     {
+        let mut text = String::new(heap);
         self.lines = self.lines.saturating_add(1);
         let words = words(heap, line)?;
         if words.is_empty() {
-            return Ok(());
+            return Ok(text);
         }
-        write!(out, "{}: ", self.lines)?;
-        self.answer(heap, &words, out)
+        write!(text, "{}: ", self.lines)?;
+        self.answer(heap, &words, &mut text)?;
+        Ok(text)
+    }
+
+    // Takes the next line of the script: carries it out, and adds its number and result to the output.
+    pub fn take(&mut self, heap: Global, line: &[u8], out: &mut Vec<u8>) -> Result<(), AllocError>
+        ensures state { OnOk result (self.new ≡ after self.old (words_of line.now)) }
+        ensures text { OnOk result (out.new.items ≡ out.old.items ++ (printed self.old (words_of line.now))) }
+    {
+        let text = self.taken(heap, line)?;
+        out.extend_from_slice(text.as_bytes())
     }
 }

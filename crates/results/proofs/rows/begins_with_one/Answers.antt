@@ -1,9 +1,6 @@
-use Rattle.std.proofs.Common.{◌∙◌}
-use Rattle.results.proofs.Written.{first_bit, no_bit}
+use Rattle.std.proofs.Common.{rules}
+use Rattle.results.proofs.Written.{first_bit}
 use Rattle.results.proofs.rows.begins_with_one.Goals as goal
 
-pub returns-in-Some : goal.returns-in-Some
-returns-in-Some c = c.bit_at.ensures ∙ first_bit _ _ _ c.in-Some.ensures.cases.0
-
-pub returns-in-None : goal.returns-in-None
-returns-in-None c = no_bit c.args.low_first.now c.in-None.ensures.cases
+pub returns : goal.returns
+returns c = first_bit c.args.low_first.now c.last.result c.is_some_and.result _ c.last.ensures.value c.is_some_and.ensures (λ x q. search rules)

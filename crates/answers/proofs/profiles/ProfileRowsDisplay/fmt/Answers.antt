@@ -1,14 +1,33 @@
-use Rattle.std.proofs.Common.{◌≡◌, take, length, sym, ap, subst, ◌<◌, ◌∙◌, refl, arith}
+use Rattle.std.proofs.Common.{rules, ◌≡◌, ◌+◌, ◌++◌, None, take, length, sym, ap, subst, ◌<◌, ◌∙◌, arith}
 use Rattle.std.proofs.Output.{has_written_append, has_written_of_eq}
+use Rattle.std.specs.Fmt.{HasWritten}
+use Rattle.std.proofs.lemmas.List.{append-nil}
 use Rattle.answers.specs.Profiles.{rows_of}
-use Rattle.answers.proofs.Rows.{row_more}
+use Rattle.answers.proofs.Rows.{row_more, row_is, row_text, row_written}
 use Rattle.answers.proofs.profiles.ProfileRowsDisplay.fmt.Goals as goal
+use Rattle.answers.proofs.profiles.ProfileRowsDisplay.fmt.Goals.{in-Some+in_ok-writeln, in_default-field}
 
 pub loop-register-preserved : goal.loop-register-preserved
 loop-register-preserved g c = λ plain.
-    let within = subst (λ rs. c.loop-register.register-index < length rs) (sym c.all-register-items.ensures) c.loop-register-test.true in
-    has_written_of_eq _ _ _ _ _ (row_more c.args.self.now.0.now c.all-register-items.result c.loop-register.register-index _ within)
-    (has_written_append _ _ _ _ _ _ (c.loop-register.invariant plain) (c.in_ok-write.ensures.writes (c.loop-register.invariant plain).plain refl))
+    let p = c.args.self.now.0.now in
+    let i = c.loop-register.register-index in
+    let took = g.W.Write.write_str_gives in
+    let within = subst (λ rs. i < length rs) (sym c.all-register-items.ensures) c.loop-register-test.true in
+    let so_far = c.loop-register.invariant plain in
+    elim c.match-field.branch [
+      | in-Some+in_ok-writeln w ↦
+          let row : HasWritten took c.loop-register.f (row_text w.address-address.result w.name-name.result.now w.in-Some.bytes.now) w.writeln.new.self = search rules in
+          let same = row_written _ _ _ w.in-Some.bytes.now w.address-address.ensures.value (omega (arith, w.address-address.ensures.bound)) w.name-name.ensures in
+          let is = row_is _ p _ _ c.in-Ok.ensures.0 c.in-Ok.ensures.1 w.in-Some.ensures in
+          subst (λ f. HasWritten took c.args.f.now (rows_of p (take (i + 1) c.all-register-items.result)) f) (sym w.f-is)
+          (has_written_of_eq _ _ _ _ _ (row_more p c.all-register-items.result i _ within)
+          (has_written_append _ _ _ _ _ _ so_far (has_written_of_eq _ _ _ _ _ (same ∙ is) row)))
+      | in_default-field w ↦
+          let done = rows_of p (take i c.all-register-items.result) in
+          let is = row_is _ p _ None c.in-Ok.ensures.0 c.in-Ok.ensures.1 w.in_default-field.ensures in
+          subst (λ f. HasWritten took c.args.f.now (rows_of p (take (i + 1) c.all-register-items.result)) f) (sym w.f-is)
+          (has_written_of_eq _ _ _ _ _ (sym (append-nil done) ∙ ap (λ l. done ++ l) is ∙ row_more p c.all-register-items.result i _ within) so_far)
+    ]
 
 pub returns-clause-writes : goal.returns-clause-writes
 returns-clause-writes g c = λ plain ok.
