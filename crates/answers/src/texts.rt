@@ -17,7 +17,7 @@ pub fn front(bytes: &[u8], n: usize) -> &[u8]
 }
 
 // A refusal: its number, the register that it names, and the reason.
-#[derive(Clone, Copy)]
+#[derive(Clone, Copy, Debug, PartialEq, Eq)]
 pub struct Refused(pub Refusal);
 
 impl fmt::Display for Refused {

@@ -1,5 +1,5 @@
 // The registers that show what a unit does, as they read now.
-#[derive(Clone, Copy)]
+#[derive(Clone, Copy, Debug, PartialEq, Eq)]
 pub struct Live {
     pub status: u8,
     pub observe_tx: u8,

@@ -1,7 +1,7 @@
 use commands::Refusal as UnitRefusal;
 
 // Why a cell refuses a call.
-#[derive(Clone, Copy)]
+#[derive(Clone, Copy, Debug, PartialEq, Eq)]
 pub enum Cause {
     // the unit's own refusal
     Unit(UnitRefusal),
@@ -25,7 +25,7 @@ pub enum Layer {
 
 // A refusal by a cell, with the unit that it names: the one that was called, or is at fault; 0 for a carry (docs/CELL.md). A
 // number and not a place: it is the one that the call gave, which no unit need have.
-#[derive(Clone, Copy)]
+#[derive(Clone, Copy, Debug, PartialEq, Eq)]
 pub struct Refusal {
     pub unit: u8,
     pub cause: Cause,

@@ -23,6 +23,12 @@ unfolding word
 length_word zero b = refl
 length_word (suc k) b = ap suc (length_word k b)
 
+-- the same where a string follows
+word_at : (k b : ℕ) (rest : List Bool) (i : ℕ) → i < k → slice_index_or (word k b ++ rest) i false ≡ bit b (k - suc i)
+word_at k b rest i h =
+    let q : k - 1 - i ≡ k - suc i = omega arith in
+    get_or_append_left (word k b) rest false i (omega (arith, h, length_word k b)) ∙ bit_of_word k b i h ∙ ap (λ (n : ℕ). bit b n) q
+
 word_past : (k b : ℕ) (rest : List Bool) (j : ℕ) → slice_index_or (word k b ++ rest) (k + j) false ≡ slice_index_or rest j false
 unfolding word
 word_past zero b rest j = let q : 0 + j ≡ j = omega arith in ap (λ (n : ℕ). get_or rest n false) q
@@ -45,8 +51,8 @@ bits_at (b ∷ bs) i =
     elim (cases_lt i 8) [
       | inl l ↦
           let q : i / 8 ≡ 0 = omega arith in
-          let m : 8 - 1 - i ≡ 7 - i % 8 = omega arith in
-          get_or_append_left (word 8 b) (bits bs) false i (omega (arith, l, length_word 8 b)) ∙ bit_of_word 8 b i l ∙ ap (λ (n : ℕ). bit b n) m
+          let m : 8 - suc i ≡ 7 - i % 8 = omega arith in
+          word_at 8 b (bits bs) i l ∙ ap (λ (n : ℕ). bit b n) m
           ∙ ap (λ (n : ℕ). bit (slice_index (b ∷ bs) n) (7 - i % 8)) (sym q)
       | inr l ↦
           let j : ℕ = i - 8 in
@@ -101,3 +107,7 @@ take_reached bs n =
       | inl l ↦ ap (λ (k : ℕ). take k (bits bs)) (omega arith)
       | inr l ↦ take_all _ (bits bs) (omega (arith, length_bits bs)) ∙ sym (take_all n (bits bs) (omega (arith, length_bits bs)))
     ]
+
+pub take_past : (bs : List ℕ) (i n : ℕ) → length bs ≤ i / 8 → i ≤ n → take i (bits bs) ≡ take n (bits bs)
+take_past bs i n h l =
+    take_all i (bits bs) (omega (arith, length_bits bs)) ∙ sym (take_all n (bits bs) (omega (arith, length_bits bs)))

@@ -36,7 +36,7 @@ pub struct Retry {
 // The plain part of a boxed unit that runs: the level of CE, the mode, CONFIG, the flags and the counters.
 // CONFIG is kept here, since four of its bits can be written in the box. Role and retries are not: they stand in the registers,
 // which boxing fixed, and a second copy here would have to be kept equal to them. So the calls that need them take them.
-#[derive(Clone, Copy, PartialEq, Eq)]
+#[derive(Clone, Copy, Debug, PartialEq, Eq)]
 pub struct Core {
     pub ce: bool,
     pub mode: Mode,

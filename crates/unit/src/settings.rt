@@ -42,8 +42,9 @@ impl State {
     pub(crate) fn tx_address(&self) -> Address
         ensures { address_bytes result ≡ tx_address self.now.registers }
     {
-        let mut held = [0; 5];
-        held.copy_from_slice(self.registers.value(Register::TxAddr));
-        Address::of_low_bytes(held, self.address_width())
+        Address::of_low_bytes(
+            self.registers.wide(Register::TxAddr),
+            self.address_width(),
+        )
     }
 }
