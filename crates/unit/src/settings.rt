@@ -42,9 +42,6 @@ impl State {
     pub(crate) fn tx_address(&self) -> Address
         ensures { address_bytes result ≡ tx_address self.now.registers }
     {
-        Address::of_low_bytes(
-            self.registers.wide(Register::TxAddr),
-            self.address_width(),
-        )
+        Address::of_low_bytes(self.registers.wide(Register::TxAddr), self.address_width())
     }
 }
