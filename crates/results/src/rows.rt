@@ -19,6 +19,7 @@ fn begins_with_one(low_first: &[u8]) -> bool
     low_first.last().is_some_and(|high| bit_at(&[*high], 0))
 }
 
+// One of two fixed rows, as is the next: a bool has no type of its own that could be displayed so.
 fn preamble(first: bool) -> &'static str
     ensures { result.now ≡ preamble_row first }
 {

@@ -55,7 +55,8 @@ impl fmt::Display for Answer<'_> {
     }
 }
 
-// How a line of that form is written.
+// How a line of that form is written. A function to a fixed text, as is the next: `Form` and `Wanted` are another crate's types, and
+// a struct around each for a Display would be longer and say no more.
 fn usage(form: Form) -> &'static str
     ensures { result.now ≡ usage_text form }
 {

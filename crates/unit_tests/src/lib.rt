@@ -102,7 +102,7 @@ mod tests {
         }
     }
 
-    // The same with either kind of check.
+    // The same with either kind of check. Each list of steps is a test of its own below, so that it is named and counted by itself.
     fn both(rt: &impl Abort, narrow: &[Step], wide: &[Step]) {
         run::<Crc8>(rt, narrow);
         run::<Crc16>(rt, wide);

@@ -62,6 +62,7 @@ mod tests {
         Ok(())
     }
 
+    // a test for each kind of check, so that each is named and counted by itself
     #[test]
     fn frames_of_8_bit_checks(rt: HostRuntime) -> Result<(), Fail> {
         frames_of::<Crc8>(&rt, 8)

@@ -37,6 +37,7 @@ pub fn together(heap: Global, word: &[u8]) -> Result<Option<Vec<u8>>, AllocError
 {
     let mut out = Vec::new(heap);
     for digits in word.chunks(2) {
+        // no `?`: the errors that this function passes on are the allocator's
         let Some(b) = byte(digits) else {
             return Ok(None);
         };
