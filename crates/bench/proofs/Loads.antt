@@ -12,7 +12,7 @@ use Rattle.commands.specs.Refusals.{first_of, unless, kept_or}
 use Rattle.profile.specs.Profile.{sound}
 use Rattle.bench.specs.Loading.{field, refuses, field_refusals, load_refusal, fields_written, load_after, field_or, Fills, FillsAll, Loaded}
 
-first_none : (b : Bool) (e : Refusal) (rest : Option Refusal) → cond b (Some e) rest ≡ None → (b ≡ false) × (rest ≡ None)
+pub first_none : (b : Bool) (e : Refusal) (rest : Option Refusal) → cond b (Some e) rest ≡ None → (b ≡ false) × (rest ≡ None)
 first_none true e rest h = absurd (let z : ◌≡◌ {A = ℕ} 0 1 = cc in omega arith)
 first_none false e rest h = (refl, h)
 

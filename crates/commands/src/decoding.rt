@@ -5,7 +5,7 @@ use crate::command::Command;
 use crate::refusal::Refusal;
 use registers::Register;
 
-// The command that the byte stands for, with its data.
+// The command that the byte stands for, with its data. One match: a table of functions would lose what each of them promises.
 fn command(first: u8, data: &[u8]) -> Result<Command<'_>, Refusal>
     ensures { told result ≡ order_of first «data».now }
 {

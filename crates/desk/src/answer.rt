@@ -3,7 +3,7 @@ use commands::Refusal;
 // What a unit answers.
 // `Reply` is a length beside a buffer. It is no Vec: a call on a unit cannot fail, and a Vec would make it fail for want of memory.
 // It is no ArrayVec, which is not Copy, as an answer is.
-#[derive(Clone, Copy, Debug, PartialEq, Eq)]
+#[derive(Clone, Copy, Debug)]
 pub enum UnitAnswer {
     Done,
     // the level of its IRQ pin

@@ -1,5 +1,6 @@
 // Numbers and bytes in the bits of a buffer. The loops over a number's bits go by their places: neither a number nor a
-// part of a slice has an iterator over its bits. Each call takes its place `at`, and there is no cursor that keeps one:
+// part of a slice has an iterator over its bits. A bit of a number is one expression, since `bit_at` reads byte strings;
+// `get_bits` sums in a loop and no fold: that the sum stays in 16 bits is an invariant of the loop. Each call takes its place `at`, and there is no cursor that keeps one:
 // the callers jump to the places that a frame's layout gives.
 ghost use Rattle.std.specs.Prelude.{◌≡◌, ℕ, ◌+◌, ◌-◌, ◌*◌, ◌^◌, ◌<◌, ◌≤◌, false, length, take, drop, slice_index, slice_set};
 ghost use Rattle.std.proofs.Math.Seq.{paste};

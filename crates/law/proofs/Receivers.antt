@@ -39,7 +39,8 @@ use Rattle.law.proofs.Carries.{index_below}
 use Rattle.law.proofs.Facts.{at_elsewhere}
 use Rattle.law.proofs.Inv.{other_trials, TriesOk, Pending, EntryOk, EntriesOk, Before, ReadBefore, ReadByNow, TakenByNow, OrderOk, TakenOk, last_number, Inv}
 use Rattle.law.proofs.Changes.{receiver_changes, air_changes}
-use Rattle.law.proofs.Senders.{first_none, sound_refusal, note_ce}
+use Rattle.bench.proofs.Loads.{first_none}
+use Rattle.law.proofs.Senders.{sound_refusal, note_ce}
 use Rattle.law.proofs.Ticks.{data_back}
 
 -- ---- the reply

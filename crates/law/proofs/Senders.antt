@@ -28,16 +28,13 @@ use Rattle.cell.specs.Refusals.{of_the_unit}
 use Rattle.cell.specs.Calls.{unit_at, with_unit, commanded, command_answer_by, commanded_by, reply_by, leveled, leveled_by}
 use Rattle.law.specs.Runs.{command, ce, Outcome, replied, done as accepted, refused, reply_of, outcome}
 use Rattle.law.specs.Law.{History, at, wrote, flushed, note_order, note}
+use Rattle.bench.proofs.Loads.{first_none}
 use Rattle.law.proofs.Facts.{all_push, at_there, at_elsewhere, at_each, nth_push}
 use Rattle.law.proofs.Inv.{Sendable, trying, SenderOk, TriesOk, Pending, pid_at, numbered, Inv}
 use Rattle.law.proofs.Changes.{sender_changes}
 use Rattle.law.proofs.Tails.{next_identity, tail_push, tail_none, Calm, tries_none, calm_tries, calm_waits, calm_busy, waiting_tries}
 
 -- ---- refusals
-
-pub first_none : (b : Bool) (e : UnitRefusal) (x : Option UnitRefusal) → cond b (Some e) x ≡ None → (b ≡ false) × (x ≡ None)
-first_none true e x h = let z : ◌≡◌ {A = ℕ} 0 1 = cc in absurd (omega arith)
-first_none false e x h = (refl, h)
 
 fault_none : (x : Option Register) (y : Option UnitRefusal) → x ≡ None → or_else (elim x [ None ↦ None | Some r ↦ Some (Fault r) ]) y ≡ y
 fault_none None y h = refl

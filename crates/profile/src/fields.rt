@@ -31,7 +31,8 @@ impl<'a> Profile<'a> {
         self.map.count_below(24)
     }
 
-    // The field of a register, as that part of the profile's own bytes; none where it is not named.
+    // The field of a register, as that part of the profile's own bytes; none where it is not named. No `then`: nothing is proved of a
+    // part of the profile that a closure hands on.
     pub fn field(&self, register: Register) -> Option<&'a [u8]>
         ensures { option_map (λ x. x.now) result ≡ field_of (bytes_of self.now) (address_of register) }
     {

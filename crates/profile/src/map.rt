@@ -18,7 +18,7 @@ const ALLOWED: u32 = 0x007F_FC7F;
 pub(crate) struct Map(pub(crate) u32);
 
 impl Map {
-    // Whether it names the register.
+    // Whether it names the register. `stands` of registers tests a bit of a byte only.
     pub(crate) fn names(self, register: Register) -> bool
         ensures { result ≡ names self.0 (address_of register) }
     {

@@ -1,4 +1,4 @@
-ghost use Rattle.std.specs.Prelude.{◌≡◌, ◌<◌, Some};
+ghost use Rattle.std.specs.Prelude.{◌≡◌, ◌<◌, Some, Decides, ◌==◌};
 ghost use Rattle.registers.specs.Address.{address_of, register_at};
 
 use crate::register::Register;
@@ -11,5 +11,13 @@ impl Register {
         ensures back { register_at result ≡ Some self }
     {
         self as u8
+    }
+
+    // Whether it is that register, which is where the addresses are equal. It says of `==`, which is derived, what it answers.
+    pub fn is(self, other: Register) -> bool
+        ensures value { result ≡ (address_of self == address_of other) }
+        ensures same { Decides result (self ≡ other) }
+    {
+        self == other
     }
 }

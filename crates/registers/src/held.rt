@@ -5,7 +5,7 @@ pub(crate) struct Value {
     pub(crate) bytes: [u8; 5],
 }
 
-// The value of each register, by its address. STATUS, OBSERVE_TX and FIFO_STATUS keep their values of a unit at rest here:
+// The value of each register, by its address; an array, since the engine allocates nothing. STATUS, OBSERVE_TX and FIFO_STATUS keep their values of a unit at rest here:
 // how they read in a unit at work follows from its flags, counters and queues.
 #[derive(Clone, Copy)]
 pub struct Registers {

@@ -220,7 +220,7 @@ impl Register {
         rows()[usize::from(self.address())]
     }
 
-    // Its name in the data sheet.
+    // Its name in the data sheet; a method beside Display, since a column pads a text.
     pub fn name(self) -> &'static str
         ensures { result.now ≡ name_of self }
     {

@@ -124,6 +124,7 @@ fn read_line(heap: Global, words: &[&[u8]]) -> Result<Line, Stop>
 
 // Apart from `parse`, so that the grammar follows from this one promise, and not once for each kind of line.
 // The heap goes beside the words, as it goes into each call that allocates: one struct of both would be no plainer.
+// One match over the forms: a table of functions would lose what each of them promises.
 fn words_line(heap: Global, words: &[&[u8]]) -> Result<Line, Stop>
     ensures { Gives asked result (line_of (texts words.now)) }
 {

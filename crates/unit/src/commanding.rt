@@ -181,7 +181,7 @@ impl State {
         }
     }
 
-    // A command that was read.
+    // A command that was read. One match: a table of functions would lose what each of them promises.
     fn serve(&mut self, command: Command<'_>, buffer: &mut [u8]) -> Result<usize, Refusal>
         ensures answer { result ≡ serve_answer self.old (length buffer.old) (order command.entry) }
         ensures state { self.new ≡ serve_after self.old (length buffer.old) (order command.entry) }

@@ -6,7 +6,7 @@ use crate::entry::Data;
 use frames::Payload;
 
 impl Data {
-    // The bytes given, of which there are 1 to 32.
+    // The bytes given, of which there are 1 to 32. No TryFrom: an error would say no more than None does.
     pub fn new(given: &[u8]) -> Option<Data>
         ensures whole { result ≡ entry_of given.now }
         ensures bytes { MatchOption result ((1 ≤ length given.now → length given.now ≤ 32 → ⊥)) (λ d. data_bytes d ≡ given.now) }

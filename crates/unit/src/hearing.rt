@@ -46,7 +46,8 @@ impl State {
         self.registers.is_enabled(pipe) && self.pipe_in_use(pipe) == *address
     }
 
-    // The pipe of a receiver with this address. By reference and `copied`, since std has no lemma of what is found in an array by value.
+    // The pipe of a receiver with this address. By reference and `copied`: what is found in an
+    // array by value needs a lemma of bench's, and is no plainer.
     fn pipe_of(&self, address: &Address) -> Option<Pipe>
         ensures { result ≡ pipe_of self.now.registers (address_bytes address.now) }
     {

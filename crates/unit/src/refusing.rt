@@ -17,7 +17,7 @@ impl State {
     }
 }
 
-// The bytes of the longest frame.
+// The bytes of the longest frame; clauses say the number, so each crate that needs it has its own.
 const LONGEST_FRAME: usize = 42;
 
 // There is room for the longest frame.
