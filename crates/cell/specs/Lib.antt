@@ -1,4 +1,4 @@
 pub mod Refusals
 pub mod Air
-pub mod Making
 pub mod Calls
+pub mod Making

@@ -2,9 +2,11 @@
 #![tactic(auto)]
 
 mod air;
+mod making;
 mod parts;
 mod refusal;
 
 pub use air::{Fate, Frame};
+pub use making::Unmade;
 pub use parts::{Cell, Inside, Places};
 pub use refusal::{Cause, Layer, Refusal};
