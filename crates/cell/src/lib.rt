@@ -2,8 +2,15 @@
 #![tactic(auto)]
 
 mod air;
+mod airing;
+mod answering;
+mod calling;
+mod carrying;
+mod fates;
+mod hearing;
 mod parts;
 mod refusal;
+mod refusals;
 
 pub use air::{Fate, Frame};
 pub use parts::{Cell, Inside, Places};
