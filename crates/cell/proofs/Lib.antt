@@ -1,1 +1,4 @@
 pub mod Within
+pub mod Patterned
+pub mod Heard
+pub mod Alike

@@ -1,10 +1,10 @@
 // A frame on the air is heard.
-ghost use Rattle.std.specs.Prelude.{◌≡◌};
+ghost use Rattle.std.specs.Prelude.{◌≡◌, cond, ◌==◌};
 ghost use Rattle.std.specs.Option.{option_map};
 ghost use Rattle.checks.specs.Bits.{word};
 ghost use Rattle.frames.specs.Damage.{changed};
 ghost use Rattle.cell.specs.Air.{bits_on, air_of};
-ghost use Rattle.cell.specs.Calls.{heard_by_unit, answer_bits, heard_by_all, answer_of, heard_once};
+ghost use Rattle.cell.specs.Calls.{heard_by_unit, answer_bits, answer_by, heard_by_all, answer_of, heard_once};
 
 use crate::air::Frame;
 use crate::airing::LONGEST_FRAME;
@@ -38,23 +38,31 @@ impl Frame {
     }
 }
 
+// The unit at a place hears a frame, if there is a unit and the frame is not its own. The answer is what is then on the air, if the
+// unit is the receiver.
+fn hear_at<C: Check>(place: &mut Option<State>, unit: usize, frame: &Frame) -> Option<Frame>
+    ensures place { place.new ≡ cond (unit == frame.now.from) place.old (option_map (heard_by_unit C.Check.W C.meaning frame.now (bits_on frame.now)) place.old) }
+    ensures answer { unit ≡ 0 → result ≡ air_of 0 (answer_by C.Check.W C.meaning place.old frame.now (bits_on frame.now)) }
+{
+    if unit == usize::from(frame.from) {
+        return None;
+    }
+    match place {
+        None => None,
+        Some(state) => hear::<C>(state, frame),
+    }
+}
+
 impl Places {
-    // Every unit but the sender hears the frame. Only the receiver's answer counts.
+    // Every unit but the sender hears the frame; the answer is the receiver's. By their numbers: after a loop over the places
+    // themselves nothing is known of them.
     fn hear<C: Check>(&mut self, frame: &Frame) -> Option<Frame>
         ensures places { self.new.at ≡ heard_by_all C.Check.W C.meaning frame.now (bits_on frame.now) self.old.at }
         ensures answer { result ≡ air_of 0 (answer_of C.Check.W C.meaning frame.now (bits_on frame.now) self.old.at) }
     {
-        let mut answer = None;
-        for (unit, place) in self.at.iter_mut().enumerate() {
-            if unit == usize::from(frame.from) {
-                continue;
-            }
-            if let Some(state) = place {
-                let heard = hear::<C>(state, frame);
-                if unit == 0 {
-                    answer = heard;
-                }
-            }
+        let answer = hear_at::<C>(&mut self.at[0], 0, frame);
+        for unit in 1..self.at.len() {
+            let _ = hear_at::<C>(&mut self.at[unit], unit, frame);
         }
         answer
     }
