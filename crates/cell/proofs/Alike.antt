@@ -1,5 +1,5 @@
 -- Which parts of a frame matter to those that hear given bits: its sender, and how many bits and bytes it has.
-use Rattle.std.proofs.Common.{◌≡◌, ℕ, suc, ◌*◌, Bool, cond, eqb, ltb, List, [], ◌∷◌, length, get_or, Option, None, Some, refl, ap, ap₂}
+use Rattle.std.proofs.Common.{◌∙◌, ◌≡◌, ℕ, suc, ◌*◌, Bool, cond, eqb, ltb, List, [], ◌∷◌, length, get_or, Option, None, Some, refl, ap, ap₂}
 use Rattle.std.specs.Option.{option_map}
 use Rattle.commands.specs.declared.refusal.Refusal.{Refusal as UnitRefusal}
 use Rattle.commands.specs.declared.refusal.Refusal.TheVariants.{FrameBytes}
@@ -39,7 +39,11 @@ module _ (w : ℕ) (f : List Bool → ℕ) (x y : Frame) (from : y.from ≡ x.fr
   same_answer None = refl
   same_answer (Some s) = ap₂ (λ (k : ℕ) (zs : List Bool). cond (eqb k 0) [] zs) from (same_bits s)
 
-  pub same_once : (c : Inside) → heard_once w f c y xs ≡ heard_once w f c x xs
+  same_once : (c : Inside) → heard_once w f c y xs ≡ heard_once w f c x xs
   same_once c =
       ap₂ (λ (us : List (Option State)) (zs : List Bool). with_air (with_places c us) (air_of 0 zs))
       (same_from 0 c.places.at) (same_answer (get_or c.places.at 0 None))
+
+  -- the frame y is heard, and its bits are xs
+  pub heard_alike : (c t : Inside) (zs : List Bool) → t ≡ heard_once w f c y zs → zs ≡ xs → t ≡ heard_once w f c x xs
+  heard_alike c t zs h e = h ∙ ap (λ (v : List Bool). heard_once w f c y v) e ∙ same_once c

@@ -1,9 +1,9 @@
 // The calls of a cell at one of its units.
-ghost use Rattle.std.specs.Prelude.{◌≡◌, length};
+ghost use Rattle.std.specs.Prelude.{◌≡◌, cond, length, Ok, nat_lt};
 ghost use Rattle.commands.specs.Refusals.{unless};
 ghost use Rattle.unit.specs.Ticking.{tick_refusal, tick_after};
 ghost use Rattle.cell.specs.Air.{air_of};
-ghost use Rattle.cell.specs.Calls.{command_result, commanded, command_reply, ce_result, leveled, tick_bits, tick_result, ticked};
+ghost use Rattle.cell.specs.Calls.{command_result, commanded, command_reply, ce_result, leveled, no_such, tick_bits, tick_result, ticked};
 ghost use Rattle.cell.specs.Pins.{irq_at};
 
 use crate::air::Frame;
@@ -14,6 +14,21 @@ use crate::refusal::{Cause, Refusal};
 use checks::Check;
 use commands::Refusal as UnitRefusal;
 use unit::State;
+
+// How many places a cell has; clauses say the number.
+const PLACES: usize = 7;
+
+// The place of a unit of that number, if there can be one.
+fn place_of(unit: u8) -> Result<usize, Refusal>
+    ensures { result ≡ cond (nat_lt unit 7) (Ok unit) (no_such unit) }
+{
+    let place = usize::from(unit);
+    if place < PLACES {
+        Ok(place)
+    } else {
+        Err(Cause::NoSuchUnit.at(unit))
+    }
+}
 
 // One tick of a unit. The answer is what it puts on the air.
 fn tick<C: Check>(state: &mut State, unit: u8) -> Result<Option<Frame>, UnitRefusal>
@@ -32,10 +47,7 @@ impl<C: Check> Cell<C> {
         ensures state { self.new.inside ≡ commanded self.old.inside unit host.now (length reply.old) }
         ensures reply { reply.new ≡ command_reply self.old.inside unit host.now reply.old }
     {
-        let place = usize::from(unit);
-        if place >= self.inside.places.at.len() {
-            return Err(Cause::NoSuchUnit.at(unit));
-        }
+        let place = place_of(unit)?;
         match &mut self.inside.places.at[place] {
             None => Err(Cause::NoSuchUnit.at(unit)),
             Some(state) => of_the_unit(unit, state.command(host, reply)),
@@ -47,10 +59,7 @@ impl<C: Check> Cell<C> {
         ensures answer { result ≡ ce_result self.old.inside unit }
         ensures state { self.new.inside ≡ leveled self.old.inside unit high }
     {
-        let place = usize::from(unit);
-        if place >= self.inside.places.at.len() {
-            return Err(Cause::NoSuchUnit.at(unit));
-        }
+        let place = place_of(unit)?;
         match &mut self.inside.places.at[place] {
             None => Err(Cause::NoSuchUnit.at(unit)),
             Some(state) => of_the_unit(unit, state.ce(high)),
@@ -62,10 +71,7 @@ impl<C: Check> Cell<C> {
         ensures answer { result ≡ tick_result C.Check.W C.meaning self.old.inside unit }
         ensures state { self.new.inside ≡ ticked C.Check.W C.meaning self.old.inside unit }
     {
-        let place = usize::from(unit);
-        if place >= self.inside.places.at.len() {
-            return Err(Cause::NoSuchUnit.at(unit));
-        }
+        let place = place_of(unit)?;
         match &mut self.inside.places.at[place] {
             None => Err(Cause::NoSuchUnit.at(unit)),
             Some(_) if self.inside.air.is_some() => Err(Cause::AirHoldsFrame.at(unit)),

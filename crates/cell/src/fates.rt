@@ -12,8 +12,8 @@ fn is_within(pattern: u16, n: usize) -> bool
     u32::from(pattern) % (1 << left) == 0
 }
 
-// Whether a pattern is allowed on a frame of so many bits with a check of so many: it has a bit, none at or past the frame's end, and
-// only among its first W. The bits that the frame has from the start bit on are counted, so that no start bit is too large.
+// Whether a pattern is allowed for a check of `width` bits on a frame of `count`: it has a bit, only among its first `width`, and none
+// at or past the frame's end. The bits that the frame has from the start bit on are counted, so no start bit is too large.
 #[tactic(auto, using(crate::proofs::Within::within))]
 fn is_pattern_allowed(width: usize, count: usize, start: usize, pattern: u16) -> bool
     ensures { result ≡ pattern_allowed width count start pattern }
@@ -35,7 +35,7 @@ impl Fate {
         }
     }
 
-    // Whether a frame of so many bits with a check of so many can have this fate.
+    // Whether a frame of `count` bits with a check of `width` can have this fate.
     pub(crate) fn is_allowed(self, width: usize, count: usize) -> bool
         ensures { result ≡ fate_allowed width count (Some self) }
     {

@@ -18,7 +18,7 @@ fn hear<C: Check>(unit: &mut State, frame: &Frame) -> Option<Frame>
     ensures answer { result ≡ air_of 0 (answer_bits C.Check.W C.meaning frame.now (bits_on frame.now) unit.old) }
 {
     let mut bytes = [0; LONGEST_FRAME];
-    // a unit with a fault hears nothing
+    // a refusal is no answer: the unit has a fault, or the frame has more bits than its bytes
     let count = unit
         .hear::<C>(&frame.bytes, frame.count, &mut bytes)
         .unwrap_or(0);
@@ -54,8 +54,8 @@ fn hear_at<C: Check>(place: &mut Option<State>, unit: usize, frame: &Frame) -> O
 }
 
 impl Places {
-    // Every unit but the sender hears the frame; the answer is the receiver's. By their numbers: after a loop over the places
-    // themselves nothing is known of them.
+    // Every unit but the sender hears the frame; the answer is the receiver's. The loop goes by numbers, since after one over the
+    // places themselves nothing is known of them.
     fn hear<C: Check>(&mut self, frame: &Frame) -> Option<Frame>
         ensures places { self.new.at ≡ heard_by_all C.Check.W C.meaning frame.now (bits_on frame.now) self.old.at }
         ensures answer { result ≡ air_of 0 (answer_of C.Check.W C.meaning frame.now (bits_on frame.now) self.old.at) }
