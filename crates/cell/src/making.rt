@@ -220,11 +220,10 @@ impl<C: Check> Cell<C> {
         ensures unmade { IfErr result (λ e. UnmadeOf C.Check.W (states units.items) e.refusal × (e.units ≡ units)) }
     {
         if let Some(unit) = unit_at_fault(&units) {
-            let refusal = Refusal {
-                unit,
-                cause: Cause::CannotBeMade,
-            };
-            return Err(Unmade { refusal, units });
+            return Err(Unmade {
+                refusal: Cause::CannotBeMade.at(unit),
+                units,
+            });
         }
         Ok(Cell {
             inside: Inside {
