@@ -1,5 +1,6 @@
 -- Making a cell: which units fit together.
 use Rattle.std.specs.Prelude.{◌≡◌, ℕ, suc, Bool, true, false, cond, not, ◌&&◌, ◌||◌, List, [], ◌∷◌, ◌++◌, map, length, drop, replicate, is_some, Some, None, Option, ◌==◌, nat_lt}
+use Rattle.std.specs.List.{list_all}
 use Rattle.queue.specs.Entries.{entries}
 use Rattle.frames.specs.Calls.{pid_number}
 use Rattle.registers.specs.declared.register.Register.TheVariants.{Config, SetupAw, RfCh, RfSetup}
@@ -16,7 +17,7 @@ use Rattle.commands.specs.declared.flags.Flags.{Flags}
 use Rattle.frames.specs.Packet.{Bytes}
 use Rattle.unit.specs.declared.state.State.{State}
 use Rattle.unit.specs.declared.state.Boxed.{Boxed}
-use Rattle.unit.specs.Units.{tx_address}
+use Rattle.unit.specs.Units.{tx_address, with_core}
 use Rattle.unit.specs.Commanding.{alike}
 use Rattle.unit.specs.Hearing.{pipe_of, address_width}
 use Rattle.unit.specs.Boxing.{boxed}
@@ -25,9 +26,12 @@ use Rattle.cell.specs.Calls.{unit_at}
 
 -- ---- units as boxing without a fault gives them
 
--- the same state, with the registers and memories that it has
-abbrev pub AsBoxed : ℕ → State → Type 0
-AsBoxed width s = (s ≡ boxed width s.registers) × (fault_of width s.registers ≡ None)
+-- CONFIG is as it was boxed, but for the interrupt masks: they can be written in the box too, and boxing with those masks gives that state
+abbrev pub but_for_masks : ℕ → ℕ → Bool
+but_for_masks boxed now = list_all (λ place. alike (bit place boxed) (bit place now)) (7 ∷ (3 ∷ (2 ∷ (1 ∷ (0 ∷ [])))))
+
+abbrev pub with_config : ℕ → State → State
+with_config v s = with_core s (record { ce = s.core.ce; mode = s.core.mode; config = v; flags = s.core.flags; counts = s.core.counts })
 
 abbrev pub is_shutdown : Mode → Bool
 is_shutdown Shutdown = true
@@ -45,14 +49,14 @@ nothing_in (x ∷ xs) = not (is_some x) && nothing_in xs
 abbrev pub no_flag : Flags → Bool
 no_flag x = not x.rx_dr && (not x.tx_ds && not x.max_rt)
 
--- the same as a test that computes
+-- the unit is as boxing gives it, but for the masks; no call was made that left a trace
 abbrev pub as_boxed : ℕ → State → Bool
 as_boxed width s =
     not (is_some s.fault)
     && (not (is_some (fault_of width s.registers))
     && (not s.core.ce
     && (is_shutdown s.core.mode
-    && (s.core.config == byte_of s.registers Config
+    && (but_for_masks (byte_of s.registers Config) s.core.config
     && (no_flag s.core.flags
     && (s.core.counts.again == 0
     && (s.core.counts.lost == 0

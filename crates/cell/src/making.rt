@@ -9,7 +9,7 @@ ghost use Rattle.unit.specs.Commanding.{alike};
 ghost use Rattle.unit.specs.Units.{tx_address};
 ghost use Rattle.unit.specs.Hearing.{on_pipe};
 ghost use Rattle.cell.specs.Refusals.{refusal_of};
-ghost use Rattle.cell.specs.Making.{as_boxed, is_shutdown, no_flag, nothing_in, tuned_alike, pipe_for, same_pipe, pipe_taken, receiver_fits, sender_fits, senders_at_fault, unit_at_fault, places_of, made, states, NewlyMade, OfBytesState, OfBytesInside};
+ghost use Rattle.cell.specs.Making.{but_for_masks, as_boxed, is_shutdown, no_flag, nothing_in, tuned_alike, pipe_for, same_pipe, pipe_taken, receiver_fits, sender_fits, senders_at_fault, unit_at_fault, places_of, made, states, NewlyMade, OfBytesState, OfBytesInside};
 
 use crate::parts::{Cell, Inside, Places};
 use crate::refusal::{Cause, Refusal};
@@ -42,6 +42,24 @@ fn has_no_memory(memories: &Memories) -> bool
     memories.at.iter().all(Option::is_none)
 }
 
+// The bit stands in both bytes or in neither.
+fn is_bit_alike(one: u8, other: u8, place: u8) -> bool
+    ensures { result ≡ alike (bit place one) (bit place other) }
+{
+    stands(one, place) == stands(other, place)
+}
+
+// The bits of CONFIG that are no interrupt mask are those that it was boxed with.
+fn is_as_boxed_but_for_masks(boxed: u8, now: u8) -> bool
+    ensures { result ≡ but_for_masks boxed now }
+{
+    is_bit_alike(boxed, now, 7)
+        && is_bit_alike(boxed, now, 3)
+        && is_bit_alike(boxed, now, 2)
+        && is_bit_alike(boxed, now, 1)
+        && is_bit_alike(boxed, now, 0)
+}
+
 // The same state, with the registers and memories that it has.
 fn is_as_boxed<C: Check>(unit: &State) -> bool
     ensures { result ≡ as_boxed C.Check.W unit.now }
@@ -53,7 +71,7 @@ fn is_as_boxed<C: Check>(unit: &State) -> bool
         && bench.fault::<C>().is_none()
         && !unit.core.ce
         && is_shutdown(unit.core.mode)
-        && unit.core.config == unit.registers.byte(Register::Config)
+        && is_as_boxed_but_for_masks(unit.registers.byte(Register::Config), unit.core.config)
         && has_no_flag(unit.core.flags)
         && unit.core.counts.again == 0
         && unit.core.counts.lost == 0
@@ -69,7 +87,7 @@ fn is_as_boxed<C: Check>(unit: &State) -> bool
 fn has_bit_of(receiver: &Registers, sender: &Registers, register: Register, place: u8) -> bool
     ensures { result ≡ alike (bit place (byte_of receiver.now register)) (bit place (byte_of sender.now register)) }
 {
-    stands(receiver.byte(register), place) == stands(sender.byte(register), place)
+    is_bit_alike(receiver.byte(register), sender.byte(register), place)
 }
 
 // Equal address width, channel, rate and CRCO. The rate by its two bits, since `Rate` does not tell bit 5 alone from both.

@@ -32,7 +32,7 @@ use Rattle.unit.specs.Units.{tx_address}
 use Rattle.unit.specs.Hearing.{address_width}
 use Rattle.unit.specs.Boxing.{boxed}
 use Rattle.cell.specs.declared.parts.Inside.{Inside}
-use Rattle.cell.specs.Making.{is_shutdown, nothing_in, no_flag, as_boxed, tuned_alike, pipe_for, same_pipe, pipe_taken, receiver_fits, sender_fits, sender_at_fault, senders_at_fault, unit_at_fault, made, NewlyMade, OfBytesInside}
+use Rattle.cell.specs.Making.{but_for_masks, with_config, is_shutdown, nothing_in, no_flag, as_boxed, tuned_alike, pipe_for, same_pipe, pipe_taken, receiver_fits, sender_fits, sender_at_fault, senders_at_fault, unit_at_fault, made, NewlyMade, OfBytesInside}
 use Rattle.cell.specs.Calls.{unit_at}
 use Rattle.law.proofs.Terms.{Fits}
 
@@ -77,10 +77,10 @@ all_none (suc n) (x ∷ xs) e h =
     let d = all_none n xs (omega arith) a.1 in
     cc
 
-core_low : (ce : Bool) (m : Mode) (n : ℕ) (x : Flags) (again lost : ℕ) (v : ℕ) → ce ≡ false → m ≡ Shutdown → n ≡ v → x ≡ no_flags → again ≡ 0 → lost ≡ 0
+core_low : (ce : Bool) (m : Mode) (n : ℕ) (x : Flags) (again lost : ℕ) → ce ≡ false → m ≡ Shutdown → x ≡ no_flags → again ≡ 0 → lost ≡ 0
     → ◌≡◌ {A = Core} (record { ce = ce; mode = m; config = n; flags = x; counts = record { again = again; lost = lost } })
-    (record { ce = false; mode = Shutdown; config = v; flags = no_flags; counts = record { again = 0; lost = 0 } })
-core_low ce m n x again lost v a b c d e f = cc
+    (record { ce = false; mode = Shutdown; config = n; flags = no_flags; counts = record { again = 0; lost = 0 } })
+core_low ce m n x again lost a b d e f = cc
 
 state_same : (f : Registers) (fault fault' : Option Register) (core core' : Core) (pid pid' : Pid) (tx tx' : Queue Outgoing) (rx rx' : Queue Received)
     (m m' : List (Option Memory)) → fault ≡ fault' → core ≡ core' → pid ≡ pid' → tx ≡ tx' → rx ≡ rx' → m ≡ m'
@@ -92,7 +92,7 @@ state_same f fault fault' core core' pid pid' tx tx' rx rx' m m' a b c d e g = c
 record Tested (w : ℕ) (s : State) : Type 0 where
   sound : s.fault ≡ None
   free : fault_of w s.registers ≡ None
-  whole : length s.memories.at ≡ 6 → s ≡ boxed w s.registers
+  whole : length s.memories.at ≡ 6 → s ≡ with_config s.core.config (boxed w s.registers)
 
 tested : (w : ℕ) (s : State) → as_boxed w s ≡ true → Tested w s
 tested w s h =
@@ -100,7 +100,7 @@ tested w s h =
     let a1 = and_parts (not (is_some (fault_of w s.registers))) _ a0.1 in
     let a2 = and_parts (not s.core.ce) _ a1.1 in
     let a3 = and_parts (is_shutdown s.core.mode) _ a2.1 in
-    let a4 = and_parts (eqb s.core.config (byte_of s.registers Config)) _ a3.1 in
+    let a4 = and_parts (but_for_masks (byte_of s.registers Config) s.core.config) _ a3.1 in
     let a5 = and_parts (no_flag s.core.flags) _ a4.1 in
     let a6 = and_parts (eqb s.core.counts.again 0) _ a5.1 in
     let a7 = and_parts (eqb s.core.counts.lost 0) _ a6.1 in
@@ -110,7 +110,7 @@ tested w s h =
     let sound : s.fault ≡ None = none_there s.fault a0.0 in
     let free : fault_of w s.registers ≡ None = none_there (fault_of w s.registers) a1.0 in
     let core =
-    core_low _ _ _ _ _ _ _ (not-true s.core.ce a2.0) (shut s.core.mode a3.0) (eqb-true _ _ a4.0) (unflagged s.core.flags a5.0)
+    core_low _ _ _ _ _ _ (not-true s.core.ce a2.0) (shut s.core.mode a3.0) (unflagged s.core.flags a5.0)
     (eqb-true _ _ a6.0) (eqb-true _ _ a7.0) in
     record {
       sound = sound;

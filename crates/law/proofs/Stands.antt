@@ -10,7 +10,7 @@ use Rattle.unit.specs.Units.{retry_of}
 use Rattle.unit.specs.Hearing.{recalled}
 use Rattle.unit.specs.Boxing.{boxed, no_memories}
 use Rattle.cell.specs.declared.parts.Inside.{Inside}
-use Rattle.cell.specs.Making.{OfBytesInside}
+use Rattle.cell.specs.Making.{with_config, OfBytesInside}
 use Rattle.cell.specs.Calls.{unit_at, command_answer_by, commanded_by, reply_by, ce_result_by, leveled_by, tick_result_by, ticked_by}
 use Rattle.law.specs.Lists.{All}
 use Rattle.law.specs.Runs.{Call, command, ce, tick, carry, reply_of, answer_of, outcome, after}
@@ -38,7 +38,7 @@ like_self : (m : Option State) → ((s : State) → m ≡ Some s → (s.fault �
 like_self None h = tt
 like_self (Some s) h = (refl, (h s refl).0, (h s refl).1)
 
-first_sender : (w : ℕ) (s : State) → s ≡ boxed w s.registers → SenderOk s [] 0
+first_sender : (w : ℕ) (s : State) → s ≡ with_config s.core.config (boxed w s.registers) → SenderOk s [] 0
 unfolding pid_at numbered
 first_sender w s e = record {
   within = omega arith;

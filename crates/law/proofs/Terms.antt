@@ -13,7 +13,7 @@ use Rattle.unit.specs.Hearing.{hears, address_width}
 use Rattle.unit.specs.Boxing.{boxed}
 use Rattle.cell.specs.declared.parts.Inside.{Inside}
 use Rattle.cell.specs.Air.{air_of}
-use Rattle.cell.specs.Making.{pipe_for, same_pipe}
+use Rattle.cell.specs.Making.{with_config, pipe_for, same_pipe}
 use Rattle.cell.specs.Calls.{unit_at, with_places, with_air}
 
 -- what the law needs of a newly made cell
@@ -22,7 +22,7 @@ pub record Fits (w : ℕ) (c : Inside) : Type 0 where
   pub there : unit_at c 0 ≡ Some receiver
   pub receives : is_receiver receiver.registers ≡ true
   pub quiet : c.air ≡ None
-  pub as_boxed : (u : ℕ) (s : State) → unit_at c u ≡ Some s → s ≡ boxed w s.registers
+  pub as_boxed : (u : ℕ) (s : State) → unit_at c u ≡ Some s → s ≡ with_config s.core.config (boxed w s.registers)
   pub sound : (u : ℕ) (s : State) → unit_at c u ≡ Some s → s.fault ≡ None
   pub width : (u : ℕ) (s : State) → unit_at c u ≡ Some s → address_width s ≡ address_width receiver
   pub sends : (k : ℕ) (s : State) → 1 ≤ k → unit_at c k ≡ Some s → is_receiver s.registers ≡ false
