@@ -21,6 +21,6 @@ pub fn replay<C: Check>(cell: &mut Cell<C>, entries: &mut [Entry<'_>])
 {
     every_run_is_lawful::<C>();
     for entry in entries.iter_mut() {
-        entry.outcome = Some(entry.call.serve(cell));
+        entry.replay(cell);
     }
 }
