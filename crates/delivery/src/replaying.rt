@@ -10,8 +10,8 @@ use cell::Cell;
 use checks::Check;
 use law::every_run_is_lawful;
 
-// Replays the calls on the cell, in their order, and writes beside each what it answered. A refused call is one of them, and the
-// calls after it are made all the same.
+// Makes the calls on the cell, in their order, and writes beside each what it answered. A refused call is one of them, and the calls
+// after it are made all the same. The clause `bytes` lets these calls be the past of later ones.
 pub fn replay<C: Check>(cell: &mut Cell<C>, entries: &mut [Entry<'_>])
     ensures calls { calls_of entries.new ≡ calls_of entries.old }
     ensures outcomes { written entries.new ≡ map Some (outcomes C.Check.W C.meaning cell.old.inside (calls_of entries.old)) }
@@ -19,8 +19,9 @@ pub fn replay<C: Check>(cell: &mut Cell<C>, entries: &mut [Entry<'_>])
     ensures bytes { All OfBytes (calls_of entries.old) }
     ensures law { CarriesTheLaw C.Check.W C.meaning cell.old.inside (calls_of entries.old) cell.new.inside (written entries.new) }
 {
+    // does nothing: what it ensures is the law, of which the clause `law` speaks
     every_run_is_lawful::<C>();
     for entry in entries.iter_mut() {
-        entry.outcome = Some(entry.call.serve(cell));
+        entry.replay(cell);
     }
 }

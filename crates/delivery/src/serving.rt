@@ -1,5 +1,6 @@
 // One call of a list.
-ghost use Rattle.std.specs.Prelude.{◌≡◌, ℕ, ◌<◌, ◌≤◌, length, take, slice_index};
+ghost use Rattle.std.specs.Prelude.{◌≡◌, ℕ, ◌<◌, ◌≤◌, length, take, Some, slice_index};
+ghost use Rattle.std.specs.Option.{option_map};
 ghost use Rattle.frames.specs.Packet.{Bytes};
 ghost use Rattle.cell.specs.Calls.{commanded};
 ghost use Rattle.law.specs.Runs.{command, answer_of, outcome, after};
@@ -65,7 +66,7 @@ fn command<C: Check>(cell: &mut Cell<C>, unit: u8, host: &[u8], room: u8) -> Out
 
 impl Call<'_> {
     // The call is made, and says what it answered.
-    pub(crate) fn serve<C: Check>(self, cell: &mut Cell<C>) -> Outcome
+    fn serve<C: Check>(self, cell: &mut Cell<C>) -> Outcome
         ensures outcome { outcome_of result ≡ outcome C.Check.W C.meaning cell.old.inside (call_of self.entry) }
         ensures state { cell.new.inside ≡ after C.Check.W C.meaning cell.old.inside (call_of self.entry) }
         ensures bytes { OfBytes (call_of self.entry) }
@@ -80,5 +81,17 @@ impl Call<'_> {
                 pattern,
             } => answered(cell.carry(fate, start, pattern)),
         }
+    }
+}
+
+impl Entry<'_> {
+    // The call is made, and what it answers is written beside it.
+    pub(crate) fn replay<C: Check>(&mut self, cell: &mut Cell<C>)
+        ensures call { call_of self.new.call ≡ call_of self.old.call }
+        ensures outcome { option_map outcome_of self.new.outcome ≡ Some (outcome C.Check.W C.meaning cell.old.inside (call_of self.old.call)) }
+        ensures state { cell.new.inside ≡ after C.Check.W C.meaning cell.old.inside (call_of self.old.call) }
+        ensures bytes { OfBytes (call_of self.old.call) }
+    {
+        self.outcome = Some(self.call.serve(cell));
     }
 }

@@ -1,5 +1,6 @@
 use Rattle.std.proofs.Common.{◌≡◌, ◌<◌, length, get_or, take, map, Some, ◌∙◌, sym, ap, refl, arith}
 use Rattle.std.proofs.lemmas.List.{length-map, take_all}
+use Rattle.std.specs.Option.{option_map}
 use Rattle.law.specs.Runs.{outcome, outcomes, after, led}
 use Rattle.law.specs.Law.{OfBytes}
 use Rattle.delivery.specs.Entries.{call_of, outcome_of, calls_of, written}
@@ -24,15 +25,14 @@ loop-entry-preserved g c =
     let l : i < length es = omega (arith, c.loop-entry-test.true, c.loop-entry.auto.entries) in
     let m : i < length xs = rw length-map c.loop-entry-test.true in
     let at : get_or xs i x ≡ x = rw (← inv.calls) (call_at es i e x l) in
-    let answers : outcome_of c.serve.result ≡ outcome w f c.loop-entry.cell.inside x = c.serve.ensures.outcome in
-    let leads : c.serve.new.cell.inside ≡ after w f c.loop-entry.cell.inside x = c.serve.ensures.state in
-    let o = answers ∙ ap (λ d. outcome w f d x) inv.state in
-    let s = leads ∙ ap (λ d. after w f d x) inv.state in
-    let b : OfBytes x = c.serve.ensures.bytes in
+    let kept : call_of c.replay.new.self.call ≡ x = c.replay.ensures.call in
+    let answers : option_map outcome_of c.replay.new.self.outcome ≡ Some (outcome w f c.loop-entry.cell.inside x) = c.replay.ensures.outcome in
+    let leads : c.replay.new.cell.inside ≡ after w f c.loop-entry.cell.inside x = c.replay.ensures.state in
+    let b : OfBytes x = c.replay.ensures.bytes in
     record {
-      calls = same_calls es i e _ refl ∙ inv.calls;
-      answered = answered_once w f c0 xs es i x _ l m at inv.answered (ap Some o);
-      state = s ∙ sym (led_once w f c0 xs i x m at);
+      calls = same_calls es i e c.replay.new.self kept ∙ inv.calls;
+      answered = answered_once w f c0 xs es i x c.replay.new.self l m at inv.answered (answers ∙ ap (λ d. Some (outcome w f d x)) inv.state);
+      state = leads ∙ (ap (λ d. after w f d x) inv.state ∙ sym (led_once w f c0 xs i x m at));
       bytes = bytes_once xs i x m at inv.bytes b;
     }
 
