@@ -75,10 +75,15 @@ impl<C: Check> Cell<C> {
         match &mut self.inside.places.at[place] {
             None => Err(Cause::NoSuchUnit.at(unit)),
             Some(_) if self.inside.air.is_some() => Err(Cause::AirHoldsFrame.at(unit)),
-            Some(state) => {
-                self.inside.air = of_the_unit(unit, tick::<C>(state, unit))?;
-                Ok(())
-            }
+            // the air is empty, and most ticks send nothing: it is written only where there is a frame
+            Some(state) => match tick::<C>(state, unit) {
+                Ok(None) => Ok(()),
+                Ok(Some(frame)) => {
+                    self.inside.air = Some(frame);
+                    Ok(())
+                }
+                Err(refusal) => Err(Cause::Unit(refusal).at(unit)),
+            },
         }
     }
 

@@ -2,3 +2,4 @@ pub mod Fixed
 pub mod Made
 pub mod Served
 pub mod Holds
+pub mod Deaf

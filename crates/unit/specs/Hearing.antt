@@ -122,6 +122,10 @@ hears s p check =
     (cond (is_rx s.core.mode) (heard_by_receiver s p check) (dropped s))
     (cond (is_waiting s.core.mode) (heard_by_sender s p) (dropped s))
 
+-- whether it listens at all
+abbrev pub listens : State → Bool
+listens s = cond (is_receiver s.registers) (is_rx s.core.mode) (is_waiting s.core.mode)
+
 -- the width of addresses, in bytes
 abbrev pub address_width : State → ℕ
 address_width s = width_of (byte_of s.registers SetupAw)

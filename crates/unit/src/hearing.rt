@@ -1,16 +1,17 @@
 // Hearing a frame.
-ghost use Rattle.std.specs.Prelude.{◌≡◌, not, length, if◌then◌else◌, Some, ◌==◌, nat_eq};
+ghost use Rattle.std.specs.Prelude.{◌≡◌, ◌*◌, ◌≤◌, not, length, take, if◌then◌else◌, Some, ◌==◌, nat_eq};
+ghost use Rattle.checks.specs.Bits.{bits};
 ghost use Rattle.queue.specs.Entries.{entries};
 ghost use Rattle.std.specs.Option.{option_map};
 ghost use Rattle.std.specs.Str.{bytes_eq};
 ghost use Rattle.frames.specs.Calls.{address_bytes, packet_of, pid_number};
 ghost use Rattle.registers.specs.Readings.{pipe_address};
 ghost use Rattle.bench.specs.Checking.{in_use};
-ghost use Rattle.unit.specs.Hearing.{on_pipe, pipe_of, on_its_pipe, taken, acknowledgement, heard_by_receiver, heard_by_sender, hears, hear_answer, hear_after, hear_buffer};
+ghost use Rattle.unit.specs.Hearing.{on_pipe, pipe_of, on_its_pipe, taken, acknowledgement, heard_by_receiver, heard_by_sender, hears, listens, heard_bits, hear_answer, hear_after, hear_buffer};
 
 use crate::entry::{Data, Received};
 use crate::memory::Memory;
-use crate::refusing::ensure_frame_fits;
+use crate::refusing::{ensure_bits_there, ensure_frame_fits};
 use crate::state::{Boxed, State};
 use crate::ticking::put_frame;
 use checks::Check;
@@ -113,6 +114,31 @@ impl State {
         }
     }
 
+    // Whether the unit listens at all.
+    fn listens(&self) -> bool
+        ensures { result ≡ listens self.now }
+    {
+        match self.role() {
+            Role::Receiver => self.core.mode.is_rx(),
+            Role::Sender => self.core.mode.is_waiting(),
+        }
+    }
+
+    // The bits of a frame, which its bytes hold. They are read only where the unit listens: most that reach a unit are for others.
+    #[tactic(auto, using(crate::proofs::Deaf::deaf))]
+    fn hear_bits<C: Check>(&mut self, frame: &[u8], count: usize) -> Option<Fields>
+        requires { count ≤ 8 * length frame.now }
+        ensures after { self.new ≡ (heard_bits C.Check.W C.meaning self.old (take count (bits frame.now))).state }
+        ensures answer { option_map packet_of result ≡ (heard_bits C.Check.W C.meaning self.old (take count (bits frame.now))).answer }
+    {
+        if !self.listens() {
+            return None;
+        }
+        // the bytes hold the bits, so reading is not refused
+        let heard = frames::read::<C>(frame, count, self.address_width()).unwrap()?;
+        self.take_in(&heard)
+    }
+
     // A frame with that kind of check reaches the unit: the first `count` bits of its bytes. The answer is the bit count of the
     // frame that is sent back, 0 for none, as the radio's calls have it (docs/HEARING.md); it stands in the buffer.
     #[tactic(auto, unfolding(frames::specs::Octets::octets))]
@@ -128,15 +154,8 @@ impl State {
     {
         self.ensure_sound()?;
         ensure_frame_fits(buffer)?;
-        // no `?` alone: neither refusal is a type of this crate, so it can write no From for them
-        let heard = frames::read::<C>(frame, count, self.address_width()).map_err(
-            |_| Refusal::FrameBytes,
-        )?;
-        // no `map_or`: of the unit that its closure would change, nothing is known after it
-        let Some(heard) = heard else {
-            return Ok(0);
-        };
-        Ok(put_frame::<C>(self.take_in(&heard), buffer))
+        ensure_bits_there(frame, count)?;
+        Ok(put_frame::<C>(self.hear_bits::<C>(frame, count), buffer))
     }
 }
 

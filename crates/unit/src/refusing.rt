@@ -1,5 +1,5 @@
 // What refuses a call: a fault before all else, and too small a buffer for the frame that a call may put there.
-ghost use Rattle.std.specs.Prelude.{◌≡◌, [], ◌∷◌, length, nat_lt};
+ghost use Rattle.std.specs.Prelude.{◌≡◌, ◌*◌, [], ◌∷◌, length, nat_lt};
 ghost use Rattle.commands.specs.declared.refusal.Refusal.TheVariants.{FrameBytes};
 ghost use Rattle.commands.specs.Refusals.{first_of, unless};
 ghost use Rattle.unit.specs.Units.{fault_refusal};
@@ -14,6 +14,17 @@ impl State {
     {
         self.fault
             .map_or(Ok(()), |register| Err(Refusal::Fault(register)))
+    }
+}
+
+// The bytes hold that many bits.
+pub(crate) fn ensure_bits_there(frame: &[u8], count: usize) -> Result<(), Refusal>
+    ensures { result ≡ unless (first_of ((nat_lt (8 * length frame.now) count, FrameBytes) ∷ [])) tt }
+{
+    if frame.len() < count.div_ceil(8) {
+        Err(Refusal::FrameBytes)
+    } else {
+        Ok(())
     }
 }
 
