@@ -12,8 +12,8 @@ import random
 import sys
 
 sys.dont_write_bytecode = True
-from model import (CONFIG, EN_AA, EN_RXADDR, RF_CH, RF_SETUP, RX_ADDR_P0, RX_ADDR_P1, RX_PW_P0, SETUP_AW, SETUP_RETR,
-                   TX_ADDR, Console, bits_of, bytes_of, changed, hexed, packed)
+from model import (CONFIG, EN_AA, EN_RXADDR, RESET, RF_CH, RF_SETUP, RX_ADDR_P0, RX_ADDR_P1, RX_PW_P0, SETUP_AW, SETUP_RETR,
+                   TX_ADDR, Console, bytes_of, changed, hexed, packed)
 
 HERE = os.path.dirname(os.path.abspath(__file__))
 SEED = 27112026
@@ -1259,16 +1259,16 @@ class Wander:
             else:
                 self.config(0)
             return
-        if roll < 0.22:
+        if roll < (0.3, 0.15, 0.1, 0.03)[len(held.outgoing)]:
             self.put(unit)
-        elif roll < 0.62:
+        elif roll < 0.65:
             if held.left and self.chance(0.9):
                 s('tick %d %d' % (unit, held.left + r.choice((-1, 0, 0, 0, 0, 1)) or 1))
             elif held.mode == 'Idle-TX' and self.chance(0.9):
                 s('tick %d %d' % (unit, r.choice((14, 14, 14, 13, 1, 40))))
             else:
                 s('tick %d %d' % (unit, r.choice((1, 2, 24, 300, 1000))))
-        elif roll < 0.68:
+        elif roll < 0.7:
             s('command %d %02X' % (unit, r.choice((0x07, 0x08, 0x17, 0x00, 0xFF, 0x10, 0x04))))
         elif roll < 0.78:
             s('command %d 27 %02X' % (unit, r.choice((0x70, 0x70, 0x20, 0x10, 0x00))))
@@ -1278,9 +1278,9 @@ class Wander:
             s('command %d E1' % unit)
         elif roll < 0.91 or held.mode == 'Standby':
             s('ce %d %d' % (unit, self.chance(0.7)))
-        elif held.mode in ('Shutdown', 'Starting') or roll < 0.95:
+        elif held.mode in ('Shutdown', 'Starting') or roll < 0.97:
             self.config(unit)
-        else:
+        elif held.mode == 'Idle-TX' and not held.outgoing and not self.cell.air:
             self.again(unit)
 
     def config(self, unit):
@@ -1330,8 +1330,122 @@ class Wander:
                     'pack %s %d 0 01' % (self.kit.address(1).hex(), r.randrange(4)), 'read 3 0', 'command %d 5' % unit, '')))
 
 
+class Tinker:
+    """Random lines for frames, profiles, and units that are in no cell."""
+
+    def __init__(self, seed, lines):
+        self.r = random.Random(seed)
+        self.kit = Kit(self.r.choice((8, 16)), self.r.choice((3, 4, 5)))
+        self.s = Round(self.kit, 'random lines without a cell, seed %s.' % seed)
+        self.lines = lines
+        self.heard = ['']
+
+    def chance(self, p):
+        return self.r.random() < p
+
+    def run(self):
+        while len(self.s.lines) < self.lines:
+            self.turn(self.r.randrange(8) if self.chance(0.1) else self.r.randrange(3))
+        return self.s
+
+    def settings(self, receiver):
+        """A sound profile, or one that is nearly so"""
+        r, kit = self.r, self.kit
+        settings = kit.receiver([r.choice((None, 1, 2, 32)) for _ in range(6)]) if receiver else kit.sender(r.randrange(6), r.choice((0, 1, 0x12)))
+        for _ in range(r.choice((0, 0, 0, 1, 2))):
+            register = r.choice((CONFIG, EN_AA, EN_RXADDR, SETUP_AW, RF_CH, RF_SETUP, RX_ADDR_P0, RX_ADDR_P1, 0x0C, 0x0F, TX_ADDR, RX_PW_P0, 0x14))
+            settings[register] = r.randbytes(5) if register in (RX_ADDR_P0, RX_ADDR_P1, TX_ADDR) else r.choice((r.randrange(256), 0, 1, 3, 0x0D, 0x3F, 0x20))
+        return settings
+
+    def profile(self):
+        """The bytes of a profile, now and then with something wrong"""
+        r = self.r
+        data = bytearray.fromhex(profile(self.settings(self.chance(0.5))))
+        if self.chance(0.2):
+            data[r.randrange(4)] ^= 1 << r.randrange(8)
+        if self.chance(0.1):
+            data = data[:r.randrange(len(data))]
+        if self.chance(0.1):
+            data += r.randbytes(r.randrange(1, 6))
+        return data
+
+    def frame(self, unit):
+        """The bits of a frame that a unit may hear, now and then with something wrong"""
+        r, kit = self.r, self.kit
+        held = self.s.console.units[unit]
+        length = r.choice((0, 1, 2, 3, 32)) if held is None or not held.registers.receiver or self.chance(0.1) else held.registers.byte(RX_PW_P0 + r.randrange(6))
+        pipe = r.choice(range(6)) if held is None or self.chance(0.2) or not held.registers.pipes else r.choice(held.registers.pipes)
+        if held is not None and not held.registers.receiver:
+            length, pipe = r.choice((0, 0, 0, 1)), 0
+        address = kit.address(pipe) if held is None or self.chance(0.1) else held.registers.address(pipe)
+        payload = bytes([r.randrange(2)] * length) if self.chance(0.5) else r.randbytes(length)
+        bits = packed(kit.w, address, r.randrange(4), r.random() < 0.1, payload[:32])
+        if self.chance(0.1):
+            bits = changed(bits, r.randrange(len(bits)), r.choice((0x8000, r.randrange(1, 0x10000))))
+        if self.chance(0.05):
+            bits = r.choice((bits[:-1], bits + '0', bits[:r.randrange(len(bits))]))
+        return bits
+
+    def turn(self, unit):
+        r, s, kit = self.r, self.s, self.kit
+        held = s.console.units[unit]
+        roll = r.random()
+        if roll < 0.06 or held is None and self.chance(0.7):
+            receiver = self.chance(0.5)
+            s('bench %d' % unit)
+            s('load %d%s' % (unit, profile(self.settings(receiver))))
+            s(r.choice(('check %d', 'box %d', 'box %d', 'box %d')) % unit)
+            if s.console.units[unit].boxed and self.chance(0.8):
+                s('command %d 20 %02X' % (unit, kit.config | receiver | 2))
+                s('ce %d 1' % unit)
+                s('tick %d 213' % unit)
+        elif roll < 0.12:
+            bits = self.frame(unit)
+            s('read %d %d%s' % (kit.width if self.chance(0.9) else r.choice((2, 3, 4, 5, 6)), len(bits) + r.choice((0, 0, 0, 0, 1, 8)), hexed(bytes_of(bits))))
+        elif roll < 0.17:
+            payload = r.randbytes(r.choice((0, 1, 4, 32, 33)))
+            s('pack %s %d %d%s' % (r.randbytes(r.choice((3, 4, 5, 5, 5, 2, 6))).hex(), r.randrange(5), r.choice((0, 0, 0, 1, 1, 2)), hexed(payload)))
+        elif roll < 0.22:
+            s('field %02X%s' % (r.choice((0, 4, 5, 0x0A, 0x10, 0x11, r.randrange(256))), hexed(self.profile())))
+        elif roll < 0.25:
+            s(r.choice(('check %d', 'box %d', 'irq %d', 'load %d', 'tick %d', 'carry %d', 'ce %d 1')) % unit)
+        elif held is None or not held.boxed:
+            if self.chance(0.3):
+                s('load %d%s' % (unit, hexed(self.profile())))
+            else:
+                self.command(unit, r.choice((r.randrange(0x18), 0x20 + r.randrange(0x18), 0x20 + r.randrange(0x18), 0x20 + r.randrange(0x18), 0xFF, r.randrange(256))))
+        elif roll < 0.5:
+            self.command(unit, r.choice((0xA0, 0xA0, 0xA0, 0x61, 0x61, 0x61, 0x27, 0x27, 0xE1, 0xE2, 0xFF, 0x07, 0x08, 0x17, 0x20, r.randrange(256))))
+        elif roll < 0.75:
+            bits = self.frame(unit)
+            if self.chance(0.3):
+                bits = r.choice(self.heard)
+            self.heard = self.heard[-5:] + [bits]
+            s('hear %d %d%s' % (unit, len(bits) + r.choice((0, 0, 0, 0, 0, 0, 1, 8)), hexed(bytes_of(bits))))
+        elif roll < 0.93:
+            left = held.left or 14
+            s('tick %d %d' % (unit, r.choice((1, left, left, left, left - 1 or 1, left + 1, 14, 300, 3000))))
+        else:
+            s(r.choice(('ce %d 0', 'ce %d 1', 'ce %d 1', 'irq %d')) % unit)
+
+    def command(self, unit, first):
+        r = self.r
+        size = len(RESET[first - 0x20]) if 0x20 <= first < 0x38 else r.choice((1, 2, 32)) if first == 0xA0 else 0
+        if self.chance(0.05):
+            size = r.choice((0, 1, 5, 33))
+        data = r.randbytes(size)
+        if size == 1 and first != 0xA0:
+            held = self.s.console.units[unit]
+            data = bytes([r.choice((r.randrange(256), 0, 1, 3, 0x70, 0x20))])
+            if first == 0x20 and held is not None and self.chance(0.9):
+                data = bytes([held.registers.byte(CONFIG) & 0x0D | r.choice((0, 2, 2, 2, 0x72, 0x42))])
+        room = ' /%d' % r.randrange(36) if self.chance(0.08) else ''
+        self.s('command %d%s %02X%s' % (unit, room, first, hexed(data)))
+
+
 def wander(seed, lines=250):
-    return Wander(seed, lines).run()
+    """A random script: with a cell, or, where the seed ends with 3 or 7, without"""
+    return (Tinker if seed[-1] in '37' else Wander)(seed, lines).run()
 
 
 # --- the table ---
