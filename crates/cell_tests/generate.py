@@ -1482,12 +1482,12 @@ def text_of(script):
 
 def write_table(path):
     with open(path, 'w') as out:
-        print(HEAD, file=out)
+        print(HEAD, file=out, end='')
         for name, about, scripts in cases():
-            print('// %s\npub static %s: [&str; %d] = [' % (about, name, len(scripts)), file=out)
+            print('\n// %s\npub static %s: [&str; %d] = [' % (about, name, len(scripts)), file=out)
             for script in scripts:
                 print('    "%s",' % text_of(script), file=out)
-            print('];\n', file=out)
+            print('];', file=out)
 
 
 def write_round(path):

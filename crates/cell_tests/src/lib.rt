@@ -27,7 +27,9 @@ mod tests {
         for (i, line) in script.lines().enumerate() {
             if let Some((_, wanted)) = line.split_once("#= ") {
                 let numbered = format!(in heap; "{}: {}", i + 1, wanted).expect(rt, "no memory");
-                let is_given = given.next().is_some_and(|line| is_result(line, numbered.as_bytes()));
+                let is_given = given
+                    .next()
+                    .is_some_and(|line| is_result(line, numbered.as_bytes()));
                 assert!(rt; is_given, "{}", line);
             }
         }
