@@ -809,9 +809,19 @@ def repeats(kit):
     return s
 
 
-def mistaken(kit, memory_kept_by):
-    s = Round(kit, 'sent and never taken: the identity comes again after three flushed writes; %s.' % memory_kept_by)
+def same_check(kit, pipe, pid, payload):
+    """Another payload whose frame with this identity has the same check."""
+    wanted = kit.frame(pipe, pid, payload)[-kit.w:]
+    for n in range(1 << 20):
+        found = n.to_bytes(len(payload), 'big')
+        if found != payload and kit.frame(pipe, pid, found)[-kit.w:] == wanted:
+            return found
+
+
+def mistaken(kit, between):
+    s = Round(kit, 'sent and never taken: the identity comes again after three flushed writes; %s.' % between)
     a = bytes.fromhex('77889900')
+    again = same_check(kit, 0, 1, a) if between == 'another payload with the same check' else a
     s.cell([4], [0], retr=0x00)
     s.put(1, a)
     s.sends(1, 0, 1, a)
@@ -819,11 +829,11 @@ def mistaken(kit, memory_kept_by):
     s('carry 0', 'ok')
     s('command 1 E1', 'ok 0E')
     s.free(1)
-    if memory_kept_by == 'read before':
+    if between == 'read before':
         s.takes(0, a)
-    if memory_kept_by == 'flushed before':
+    if between == 'flushed before':
         s('command 0 E2', 'ok 40')
-    if memory_kept_by == 'powered down between':
+    if between == 'powered down between':
         s('ce 0 0', 'ok')
         s.config(0, 0, 'ok 40')
         s.config(0, 2, 'ok 40')
@@ -833,25 +843,24 @@ def mistaken(kit, memory_kept_by):
         s.put(1, other)
     s.status(1, '0F')
     s('command 1 E1', 'ok 0F')
-    s.put(1, a)
-    before = s.console.line('command 0 17')
-    s.sends(1, 0, 1, a)
+    s.put(1, again)
+    before = s('command 0 17')
+    s.sends(1, 0, 1, again)
     s.answered(0, 1)
-    assert s.console.line('command 0 17') == before
     s('command 0 17', before)
     s('carry 1', 'ok')
     s.status(1, '2E')
     s('irq 1', 'ok low')
     s.reads(1, 0x17, '11')
-    if memory_kept_by not in ('read before', 'flushed before'):
+    if between not in ('read before', 'flushed before'):
         s.takes(0, a)
     s.nothing_to_read()
     s.about('the next payload has another identity and is taken')
-    s.put(1, a, '2E')
-    s.sends(1, 0, 2, a)
+    s.put(1, again, '2E')
+    s.sends(1, 0, 2, again)
     s.answered(0, 2)
     s('carry 1', 'ok')
-    s.takes(0, a)
+    s.takes(0, again)
     s.nothing_to_read()
     return s
 
@@ -896,6 +905,52 @@ def flushed(kit):
     s.takes(0, a)
     s.delivers(1, 0, 1, b)
     s.takes(0, b)
+    return s
+
+
+def deaf(kit):
+    s = Round(kit, 'a receiver that no longer listens when the frame is carried, and a sender that no longer waits.')
+    a = bytes.fromhex('6061')
+    s.cell([2, 2], [0, 1])
+    s.put(1, a)
+    s.sends(1, 0, 1, a)
+    s('ce 0 0', 'ok')
+    s('carry 1', 'ok')
+    s.receiver_fifo('11')
+    s('ce 0 1', 'ok')
+    s.sends(1, 0, 1, a, 25)
+    s('ce 0 0', 'ok')
+    s.config(0, 0)
+    s('carry 2', 'ok')
+    s.sends(1, 0, 1, a, 25)
+    s.config(0, 2)
+    s('carry 3 0 8000', 'ok')
+    s.about('it is in RX again only after Starting and Tuning')
+    s('ce 0 1', 'ok')
+    s('tick 1 25', 'ok 25')
+    s('command 1 27 10', 'ok 1E')
+    s('tick 0 212', 'ok 212')
+    s.sends(1, 0, 1, a)
+    s('carry 1', 'ok')
+    s('tick 0', 'ok 1')
+    s.sends(1, 0, 1, a, 25)
+    s.answered(0, 1)
+    s.about('CE of the sender goes low and high again while the answer is on the air: it waits all the same')
+    s('ce 1 0', 'ok')
+    s('ce 1 1', 'ok')
+    s.accepted(1)
+    s.takes(0, a)
+    s.about('an answer on the air does not keep the receiver from being switched off')
+    s.put(2, a)
+    s.sends(2, 1, 1, a)
+    s.answered(1, 1)
+    s('ce 0 0', 'ok')
+    s.config(0, 0, 'ok 42')
+    s.takes(1, a)
+    s('command 0 27 70', 'ok 4E')
+    s('ce 2 0', 'ok')
+    s.accepted(2)
+    s.free(2)
     return s
 
 
@@ -1464,9 +1519,10 @@ def cases():
     yield 'SENDERS', 'One to six senders.', ([each_on_its_pipe(KITS[n - 1], n) for n in range(1, 7)] + both(wrong_length))
     yield 'QUEUES', 'Full queues, repeats, and an identity that comes again.', (
         both(full_queue) + both(repeats) + [mistaken(kit, how) for kit, how in zip(
-            (SMALL, LARGE, KITS[1], KITS[4]), ('not read', 'read before', 'flushed before', 'powered down between'))])
+            (SMALL, LARGE, KITS[1], KITS[4], SMALL, LARGE), ('not read', 'read before', 'flushed before', 'powered down between',
+                                                             'another payload with the same check', 'another payload with the same check'))])
     yield 'TRANSACTIONS', 'Giving up, and FLUSH_TX.', (
-        [giving_up(SMALL, 0, 0), giving_up(LARGE, 0, 3), giving_up(KITS[4], 2, 1), giving_up(KITS[2], 15, 15)] + both(flushed))
+        [giving_up(SMALL, 0, 0), giving_up(LARGE, 0, 3), giving_up(KITS[4], 2, 1), giving_up(KITS[2], 15, 15)] + both(flushed) + both(deaf))
     yield 'MODES', 'Times, the level of CE, power and interrupts in a cell.', both(last_ticks) + both(interrupts)
     yield 'BOXED', 'Boxed units that are in no cell.', both(boxed_units) + both(boxed_with_fault)
     yield 'WANDERING', 'Random calls.', [wander('%d-%d' % (SEED, n)) for n in range(KEPT)]

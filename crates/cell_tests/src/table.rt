@@ -3617,7 +3617,7 @@ command 0 61  #= ok 40 01 02 03
 ];
 
 // Full queues, repeats, and an identity that comes again.
-pub static QUEUES: [&str; 8] = [
+pub static QUEUES: [&str; 10] = [
     "# crc8, addresses of 3 bytes: a full RX queue: dropped without answer, but a repeat is answered.
 kind crc8  #= ok
 bench 0  #= ok
@@ -3970,6 +3970,7 @@ command 1 A0 03  #= ok 0E
 command 1 FF  #= ok 0F
 command 1 E1  #= ok 0F
 command 1 A0 77 88 99 00  #= ok 0E
+command 0 17  #= ok 40 10
 tick 1 15  #= ok 14 frame 81 AA E7 5A 1C 11 3B C4 4C 80 64 00
 carry 1  #= ok frame 49 AA E7 5A 1C 01 5B 80
 command 0 17  #= ok 40 10
@@ -4016,6 +4017,7 @@ command 1 A0 03  #= ok 0E
 command 1 FF  #= ok 0F
 command 1 E1  #= ok 0F
 command 1 A0 77 88 99 00  #= ok 0E
+command 0 17  #= ok 4E 11
 tick 1 15  #= ok 14 frame 105 AA E7 5A 1C 96 D3 11 3B C4 4C 80 75 4C 00
 carry 1  #= ok frame 73 AA E7 5A 1C 96 D3 01 58 BC 80
 command 0 17  #= ok 4E 11
@@ -4061,6 +4063,7 @@ command 1 A0 03  #= ok 0E
 command 1 FF  #= ok 0F
 command 1 E1  #= ok 0F
 command 1 A0 77 88 99 00  #= ok 0E
+command 0 17  #= ok 4E 11
 tick 1 15  #= ok 14 frame 89 AA E7 5A 1C 96 11 3B C4 4C 80 21 80
 carry 1  #= ok frame 57 AA E7 5A 1C 96 01 08 80
 command 0 17  #= ok 4E 11
@@ -4110,6 +4113,7 @@ command 1 A0 03  #= ok 0E
 command 1 FF  #= ok 0F
 command 1 E1  #= ok 0F
 command 1 A0 77 88 99 00  #= ok 0E
+command 0 17  #= ok 40 10
 tick 1 15  #= ok 14 frame 97 AA E7 5A 1C 96 11 3B C4 4C 80 2D E0 00
 carry 1  #= ok frame 65 AA E7 5A 1C 96 01 4C 3A 80
 command 0 17  #= ok 40 10
@@ -4127,10 +4131,102 @@ carry 1  #= ok
 command 0 61  #= ok 40 77 88 99 00
 command 0 61  #= refused unit 0 5
 ",
+    "# crc8, addresses of 3 bytes: sent and never taken: the identity comes again after three flushed writes; another payload with the same check.
+kind crc8  #= ok
+bench 0  #= ok
+load 0 00 02 FC 0D 09 01 01 1C 5A E7 11 11 21 B4 3C 22 22 22 23 24 25 04  #= ok
+box 0  #= ok
+bench 1  #= ok
+load 1 00 01 04 19 08 01 00 1C 5A E7 33 33 1C 5A E7 44 44  #= ok
+box 1  #= ok
+make  #= ok
+command 0 20 0B  #= ok 0E
+tick 0 200  #= ok 200
+ce 0 1  #= ok
+command 1 20 0A  #= ok 0E
+tick 1 200  #= ok 200
+ce 1 1  #= ok
+tick 0 13  #= ok 13
+command 1 A0 77 88 99 00  #= ok 0E
+tick 1 15  #= ok 14 frame 81 AA E7 5A 1C 11 3B C4 4C 80 64 00
+carry 1  #= ok frame 49 AA E7 5A 1C 01 5B 80
+carry 0  #= ok
+command 1 E1  #= ok 0E
+command 1 20 0A  #= ok 0E
+command 1 A0 01  #= ok 0E
+command 1 A0 02  #= ok 0E
+command 1 A0 03  #= ok 0E
+command 1 FF  #= ok 0F
+command 1 E1  #= ok 0F
+command 1 A0 00 00 00 A9  #= ok 0E
+command 0 17  #= ok 40 10
+tick 1 15  #= ok 14 frame 81 AA E7 5A 1C 11 00 00 00 54 E4 00
+carry 1  #= ok frame 49 AA E7 5A 1C 01 5B 80
+command 0 17  #= ok 40 10
+carry 1  #= ok
+command 1 FF  #= ok 2E
+irq 1  #= ok low
+command 1 17  #= ok 2E 11
+command 0 61  #= ok 40 77 88 99 00
+command 0 61  #= refused unit 0 5
+# the next payload has another identity and is taken
+command 1 A0 00 00 00 A9  #= ok 2E
+tick 1 15  #= ok 14 frame 81 AA E7 5A 1C 12 00 00 00 54 C1 80
+carry 1  #= ok frame 49 AA E7 5A 1C 02 52 80
+carry 1  #= ok
+command 0 61  #= ok 40 00 00 00 A9
+command 0 61  #= refused unit 0 5
+",
+    "# crc16, addresses of 5 bytes: sent and never taken: the identity comes again after three flushed writes; another payload with the same check.
+kind crc16  #= ok
+bench 0  #= ok
+load 0 00 02 FC 0D 0D 01 03 D3 96 1C 5A E7 21 97 A0 B4 3C 22 23 24 25 04  #= ok
+box 0  #= ok
+bench 1  #= ok
+load 1 00 01 04 19 0C 03 00 D3 96 1C 5A E7 D3 96 1C 5A E7  #= ok
+box 1  #= ok
+make  #= ok
+command 0 20 0F  #= ok 0E
+tick 0 200  #= ok 200
+ce 0 1  #= ok
+command 1 20 0E  #= ok 0E
+tick 1 200  #= ok 200
+ce 1 1  #= ok
+tick 0 13  #= ok 13
+command 1 A0 77 88 99 00  #= ok 0E
+tick 1 15  #= ok 14 frame 105 AA E7 5A 1C 96 D3 11 3B C4 4C 80 75 4C 00
+carry 1  #= ok frame 73 AA E7 5A 1C 96 D3 01 58 BC 80
+carry 0  #= ok
+command 1 E1  #= ok 0E
+command 1 20 0E  #= ok 0E
+command 1 A0 01  #= ok 0E
+command 1 A0 02  #= ok 0E
+command 1 A0 03  #= ok 0E
+command 1 FF  #= ok 0F
+command 1 E1  #= ok 0F
+command 1 A0 00 00 18 4E  #= ok 0E
+command 0 17  #= ok 40 10
+tick 1 15  #= ok 14 frame 105 AA E7 5A 1C 96 D3 11 00 00 0C 27 75 4C 00
+carry 1  #= ok frame 73 AA E7 5A 1C 96 D3 01 58 BC 80
+command 0 17  #= ok 40 10
+carry 1  #= ok
+command 1 FF  #= ok 2E
+irq 1  #= ok low
+command 1 17  #= ok 2E 11
+command 0 61  #= ok 40 77 88 99 00
+command 0 61  #= refused unit 0 5
+# the next payload has another identity and is taken
+command 1 A0 00 00 18 4E  #= ok 2E
+tick 1 15  #= ok 14 frame 105 AA E7 5A 1C 96 D3 12 00 00 0C 27 13 8E 80
+carry 1  #= ok frame 73 AA E7 5A 1C 96 D3 02 68 DF 80
+carry 1  #= ok
+command 0 61  #= ok 40 00 00 18 4E
+command 0 61  #= refused unit 0 5
+",
 ];
 
 // Giving up, and FLUSH_TX.
-pub static TRANSACTIONS: [&str; 6] = [
+pub static TRANSACTIONS: [&str; 8] = [
     "# crc8, addresses of 3 bytes: MAX_RT after 1 lost sendings 25 ticks apart, cleared and resumed.
 kind crc8  #= ok
 bench 0  #= ok
@@ -4692,6 +4788,138 @@ carry 1  #= ok
 command 1 FF  #= ok 2E
 command 1 27 20  #= ok 2E
 command 0 61  #= ok 40 E2 E3
+",
+    "# crc8, addresses of 3 bytes: a receiver that no longer listens when the frame is carried, and a sender that no longer waits.
+kind crc8  #= ok
+bench 0  #= ok
+load 0 00 06 FC 0D 09 03 01 1C 5A E7 11 11 21 B4 3C 22 22 22 23 24 25 02 02  #= ok
+box 0  #= ok
+bench 1  #= ok
+load 1 00 01 04 19 08 01 02 1C 5A E7 33 33 1C 5A E7 44 44  #= ok
+box 1  #= ok
+bench 2  #= ok
+load 2 00 01 04 19 08 01 02 21 B4 3C 33 33 21 B4 3C 44 44  #= ok
+box 2  #= ok
+make  #= ok
+command 0 20 0B  #= ok 0E
+tick 0 200  #= ok 200
+ce 0 1  #= ok
+command 1 20 0A  #= ok 0E
+tick 1 200  #= ok 200
+ce 1 1  #= ok
+command 2 20 0A  #= ok 0E
+tick 2 200  #= ok 200
+ce 2 1  #= ok
+tick 0 13  #= ok 13
+command 1 A0 60 61  #= ok 0E
+tick 1 15  #= ok 14 frame 65 AA E7 5A 1C 09 30 30 A9 80
+ce 0 0  #= ok
+carry 1  #= ok
+command 0 17  #= ok 0E 11
+ce 0 1  #= ok
+tick 1 26  #= ok 25 frame 65 AA E7 5A 1C 09 30 30 A9 80
+ce 0 0  #= ok
+command 0 20 09  #= ok 0E
+carry 2  #= ok
+tick 1 26  #= ok 25 frame 65 AA E7 5A 1C 09 30 30 A9 80
+command 0 20 0B  #= ok 0E
+carry 3 0 8000  #= ok
+# it is in RX again only after Starting and Tuning
+ce 0 1  #= ok
+tick 1 25  #= ok 25
+command 1 27 10  #= ok 1E
+tick 0 212  #= ok 212
+tick 1 15  #= ok 14 frame 65 AA E7 5A 1C 09 30 30 A9 80
+carry 1  #= ok
+tick 0  #= ok 1
+tick 1 26  #= ok 25 frame 65 AA E7 5A 1C 09 30 30 A9 80
+carry 1  #= ok frame 49 AA E7 5A 1C 01 5B 80
+# CE of the sender goes low and high again while the answer is on the air: it waits all the same
+ce 1 0  #= ok
+ce 1 1  #= ok
+carry 1  #= ok
+command 1 FF  #= ok 2E
+command 1 27 20  #= ok 2E
+command 0 61  #= ok 40 60 61
+# an answer on the air does not keep the receiver from being switched off
+command 2 A0 60 61  #= ok 0E
+tick 2 15  #= ok 14 frame 65 55 3C B4 21 09 30 30 A7 80
+carry 1  #= ok frame 49 55 3C B4 21 01 6D 00
+ce 0 0  #= ok
+command 0 20 09  #= ok 42
+command 0 61  #= ok 42 60 61
+command 0 27 70  #= ok 4E
+ce 2 0  #= ok
+carry 1  #= ok
+command 2 FF  #= ok 2E
+command 2 27 20  #= ok 2E
+command 2 20 0A  #= ok 0E
+",
+    "# crc16, addresses of 5 bytes: a receiver that no longer listens when the frame is carried, and a sender that no longer waits.
+kind crc16  #= ok
+bench 0  #= ok
+load 0 00 06 FC 0D 0D 03 03 D3 96 1C 5A E7 21 97 A0 B4 3C 22 23 24 25 02 02  #= ok
+box 0  #= ok
+bench 1  #= ok
+load 1 00 01 04 19 0C 03 02 D3 96 1C 5A E7 D3 96 1C 5A E7  #= ok
+box 1  #= ok
+bench 2  #= ok
+load 2 00 01 04 19 0C 03 02 21 97 A0 B4 3C 21 97 A0 B4 3C  #= ok
+box 2  #= ok
+make  #= ok
+command 0 20 0F  #= ok 0E
+tick 0 200  #= ok 200
+ce 0 1  #= ok
+command 1 20 0E  #= ok 0E
+tick 1 200  #= ok 200
+ce 1 1  #= ok
+command 2 20 0E  #= ok 0E
+tick 2 200  #= ok 200
+ce 2 1  #= ok
+tick 0 13  #= ok 13
+command 1 A0 60 61  #= ok 0E
+tick 1 15  #= ok 14 frame 89 AA E7 5A 1C 96 D3 09 30 30 FB 26 00
+ce 0 0  #= ok
+carry 1  #= ok
+command 0 17  #= ok 0E 11
+ce 0 1  #= ok
+tick 1 26  #= ok 25 frame 89 AA E7 5A 1C 96 D3 09 30 30 FB 26 00
+ce 0 0  #= ok
+command 0 20 0D  #= ok 0E
+carry 2  #= ok
+tick 1 26  #= ok 25 frame 89 AA E7 5A 1C 96 D3 09 30 30 FB 26 00
+command 0 20 0F  #= ok 0E
+carry 3 0 8000  #= ok
+# it is in RX again only after Starting and Tuning
+ce 0 1  #= ok
+tick 1 25  #= ok 25
+command 1 27 10  #= ok 1E
+tick 0 212  #= ok 212
+tick 1 15  #= ok 14 frame 89 AA E7 5A 1C 96 D3 09 30 30 FB 26 00
+carry 1  #= ok
+tick 0  #= ok 1
+tick 1 26  #= ok 25 frame 89 AA E7 5A 1C 96 D3 09 30 30 FB 26 00
+carry 1  #= ok frame 73 AA E7 5A 1C 96 D3 01 58 BC 80
+# CE of the sender goes low and high again while the answer is on the air: it waits all the same
+ce 1 0  #= ok
+ce 1 1  #= ok
+carry 1  #= ok
+command 1 FF  #= ok 2E
+command 1 27 20  #= ok 2E
+command 0 61  #= ok 40 60 61
+# an answer on the air does not keep the receiver from being switched off
+command 2 A0 60 61  #= ok 0E
+tick 2 15  #= ok 14 frame 89 55 3C B4 A0 97 21 09 30 30 91 2C 80
+carry 1  #= ok frame 73 55 3C B4 A0 97 21 01 37 7E 80
+ce 0 0  #= ok
+command 0 20 0D  #= ok 42
+command 0 61  #= ok 42 60 61
+command 0 27 70  #= ok 4E
+ce 2 0  #= ok
+carry 1  #= ok
+command 2 FF  #= ok 2E
+command 2 27 20  #= ok 2E
+command 2 20 0E  #= ok 0E
 ",
 ];
 
