@@ -1208,6 +1208,28 @@ def boxed_with_fault(kit):
 
 # --- random scripts ---
 
+ODD_WORDS = ('0', '1', '5', '7', '8', '9', '255', '256', '65535', '65536', '99999999999999999999', 'FF', 'ff', 'e1', 'E1', '61', '27', '8000', '80000',
+             '800', 'G0', '0x1', '/0', '/33', '/255', '/256', '/', '//1', '00', '000', '012', '-1', '1.', 'ok', 'crc8', 'make', 'Make', 'carry', '\x0b',
+             'E7E7E7', 'e7E7e7E7')
+
+
+def bent(r, lines):
+    """One of the last lines with a word left out, put in, or changed"""
+    words = r.choice(lines[-40:])[0].split('#')[0].split() or ['tick']
+    at = r.randrange(len(words))
+    how = r.randrange(5)
+    if how == 0:
+        del words[at]
+    elif how == 1:
+        words.insert(at, r.choice(ODD_WORDS))
+    elif how == 2:
+        words.append(r.choice(ODD_WORDS))
+    elif how == 3:
+        words[at] = r.choice(ODD_WORDS)
+    else:
+        words[at] += r.choice('0x9 f')
+    return r.choice((' ', '\t', '  ')).join(words) + r.choice(('', '', ' ', '\r'))
+
 class Wander:
     """A script of calls chosen by chance, so that frames do get sent and heard."""
 
@@ -1378,6 +1400,8 @@ class Wander:
     def junk(self):
         """A line that is refused, cannot be carried out, or is for something else"""
         r, s = self.r, self.s
+        if self.chance(0.5):
+            return s(bent(r, s.lines))
         unit = r.choice((0, 1, len(self.cell.units) - 1, len(self.cell.units), 7, 255, 256))
         s(r.choice(('command %d' % unit, 'command %d %02X' % (unit, r.randrange(256)), 'command %d%s' % (unit, hexed(r.randbytes(r.choice((2, 2, 6))))),
                     'command %d /0 FF' % unit, 'ce %d 1' % unit, 'ce %d' % unit, 'tick %d' % unit, 'tick %d 0' % unit, 'irq %d' % unit, 'carry 1',
@@ -1443,6 +1467,8 @@ class Tinker:
 
     def turn(self, unit):
         r, s, kit = self.r, self.s, self.kit
+        if self.chance(0.04):
+            return s(bent(r, s.lines))
         held = s.console.units[unit]
         roll = r.random()
         if roll < 0.06 or held is None and self.chance(0.7):
@@ -1536,13 +1562,17 @@ def text_of(script):
     return ''.join('%s%s\n' % (line, '' if result is None else '  #= ' + result) for line, result in script.lines)
 
 
+def literal(text):
+    return text.replace('\t', '\\t').replace('\r', '\\r').replace('\x0b', '\\x0B')
+
+
 def write_table(path):
     with open(path, 'w') as out:
         print(HEAD, file=out, end='')
         for name, about, scripts in cases():
             print('\n// %s\npub static %s: [&str; %d] = [' % (about, name, len(scripts)), file=out)
             for script in scripts:
-                print('    "%s",' % text_of(script), file=out)
+                print('    "%s",' % literal(text_of(script)), file=out)
             print('];', file=out)
 
 
