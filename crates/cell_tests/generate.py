@@ -323,7 +323,8 @@ def making(kit):
     other = 3 + (kit.width - 2) % 3
     for unit in (1, 3):
         pipe = {1: 0, 3: 4}[unit]
-        wrong(unit, kit.receiver([4]), 'a sender is a receiver')
+        home = kit.register(kit.address(pipe), 0x33)
+        wrong(unit, kit.receiver([4, 4], _0A=home, _10=home), 'a sender is a receiver, with the sender\'s addresses')
         wrong(unit, kit.sender(pipe, _00=kit.config ^ 4), 'a sender has CRCO unlike, which is a fault of its own')
         wrong(unit, kit.sender(pipe, _10=bytes(5)), 'a sender has a fault in TX_ADDR')
         wrong(unit, kit.sender(pipe, _03=other - 2), 'a sender has another address width')
@@ -349,6 +350,20 @@ def making(kit):
     s('command 4 00', 'refused cell 4 14')
     s('kind crc%d' % kit.w, 'ok')
     s('make', 'refused cell 0 13')
+    return s
+
+
+def making_rates(kit):
+    s = Round(kit, 'the rates of RF_SETUP, each with each.')
+    rates = {0x00: '1 Mbps', 0x07: '1 Mbps', 0x08: '2 Mbps', 0x0E: '2 Mbps', 0x20: '250 kbps', 0x26: '250 kbps'}
+    for theirs in rates:
+        s.boxed(0, kit.receiver([4], _06=theirs))
+        for mine in rates:
+            s.boxed(1, kit.sender(0, _06=mine))
+            s('make', 'ok' if rates[mine] == rates[theirs] else 'refused cell 1 13')
+            if rates[mine] == rates[theirs]:
+                s('kind crc%d' % kit.w, 'ok')
+                s.boxed(0, kit.receiver([4], _06=theirs))
     return s
 
 
@@ -408,14 +423,15 @@ def making_used(kit):
         s('ce %d 0' % unit, 'ok')
         unfit(unit)
         s(off[unit], 'ok 0E')
-    s.about('a payload waits; the packet identity counter is not 0; after four writes it is')
+    s.about('a payload waits; the packet identity counter is not 0; after four writes it is, but three payloads wait')
     s('command 1 A0 01', 'ok 0E')
     unfit(1)
     s('command 1 E1', 'ok 0E')
+    unfit(1)
     for n in range(3):
-        unfit(1)
         s('command 1 A0 02', 'ok 0E')
-        s('command 1 E1', 'ok 0E')
+        unfit(1)
+    s('command 1 E1', 'ok 0F')
     s.about('both units 1 and 2 used; TX_DS and then the identity counter')
     s.all('ok 0E', on[2], 'command 2 A0 01 02 03 04')
     s('tick 2 200', 'ok 200')
@@ -429,24 +445,44 @@ def making_used(kit):
     s('ce 1 1', 'ok')
     unfit(1)
     s('ce 1 0', 'ok')
-    s('command 2 27 70', 'ok 2E')
+    for n in range(3):
+        s('command 2 A0 01', 'ok 2E')
+        s('command 2 E1', 'ok 2E')
     unfit(2)
-    for n in range(3):
-        s('command 2 A0 01', 'ok 0E')
-        s('command 2 E1', 'ok 0E')
-    s.about('lost packets are counted, and nothing counts them back')
-    s.all('ok 0E', on[1], 'command 1 A0 01 02 03 04')
+    s('command 2 27 70', 'ok 2E')
+    s.about('the counters of OBSERVE_TX: ARC_CNT alone, PLOS_CNT alone, and nothing counts PLOS_CNT back')
+    a, home = bytes([1, 2, 3, 4]), kit.frame(0, 1, bytes([1, 2, 3, 4]))
+    acked = 'hear 1 %d%s' % (len(kit.frame(0, 1)), hexed(bytes_of(kit.frame(0, 1))))
+
+    def clean(status):
+        s('ce 1 0', 'ok')
+        s.all('ok ' + status, off[1], 'command 1 E1', 'command 1 27 70')
+        for n in range(3):
+            s('command 1 A0 01', 'ok 0E')
+            s('command 1 E1', 'ok 0E')
+
+    s.all('ok 0E', on[1], 'command 1 A0' + hexed(a))
     s('ce 1 1', 'ok')
-    s('tick 1 214', 'ok 214' + framed(kit.frame(0, 1, bytes([1, 2, 3, 4]))))
-    for n in range(2):
-        s('tick 1 26', 'ok 25' + framed(kit.frame(0, 1, bytes([1, 2, 3, 4]))))
+    s('tick 1 214', 'ok 214' + framed(home))
+    s('tick 1 26', 'ok 25' + framed(home))
+    s(acked, 'ok')
+    clean('2E')
+    s('command 1 08', 'ok 0E 01')
+    unfit(1)
+    s.about('a new transaction sets ARC_CNT to 0')
+    s.all('ok 0E', on[1], 'command 1 A0' + hexed(a))
+    s('ce 1 1', 'ok')
+    s('tick 1 214', 'ok 214' + framed(home))
+    s(acked, 'ok')
+    clean('2E')
+    s('command 1 08', 'ok 0E 00')
+    s.boxed(1, kit.sender(0, retr=0x00))
+    s.all('ok 0E', on[1], 'command 1 A0' + hexed(a))
+    s('ce 1 1', 'ok')
+    s('tick 1 214', 'ok 214' + framed(home))
     s('tick 1 25', 'ok 25')
-    s('ce 1 0', 'ok')
-    s.all('ok 1E', off[1], 'command 1 E1', 'command 1 27 70')
-    for n in range(3):
-        s('command 1 A0 01', 'ok 0E')
-        s('command 1 E1', 'ok 0E')
-    s('command 1 08', 'ok 0E 12')
+    clean('1E')
+    s('command 1 08', 'ok 0E 10')
     unfit(1)
     s.boxed(1, kit.sender(0))
     s.about('a received payload; then the memory of its pipe, which nothing empties')
@@ -806,22 +842,49 @@ def repeats(kit):
     s.takes(0, b)
     s.takes(1, b)
     s.nothing_to_read()
+    s.about('the same identity with another check, after three flushed writes: a new payload')
+    for payload in (a, a, a):
+        s('command 1 A0' + hexed(payload))
+    s('command 1 E1')
+    s.put(1, a)
+    s.delivers(1, 0, 0, a)
+    s.takes(0, a)
     return s
 
 
-def same_check(kit, pipe, pid, payload):
-    """Another payload whose frame with this identity has the same check."""
+def same_check_other_identity(kit):
+    s = Round(kit, 'the same check with another identity is a new payload.')
+    a = bytes.fromhex('0102FF')
+    b = same_check(kit, 0, 1, a, 2)
+    s.cell([3], [0])
+    s.put(1, a)
+    s.put(1, b)
+    s.sends(1, 0, 1, a)
+    s.answered(0, 1)
+    s('carry 1', 'ok')
+    s.sends(1, 0, 2, b, 13)
+    s.answered(0, 2)
+    s.receiver_fifo('10')
+    s('carry 1', 'ok')
+    s.takes(0, a)
+    s.takes(0, b)
+    s.nothing_to_read()
+    return s
+
+
+def same_check(kit, pipe, pid, payload, other):
+    """Another payload whose frame with the identity `other` has the check of this payload's with `pid`."""
     wanted = kit.frame(pipe, pid, payload)[-kit.w:]
     for n in range(1 << 20):
         found = n.to_bytes(len(payload), 'big')
-        if found != payload and kit.frame(pipe, pid, found)[-kit.w:] == wanted:
+        if found != payload and kit.frame(pipe, other, found)[-kit.w:] == wanted:
             return found
 
 
 def mistaken(kit, between):
     s = Round(kit, 'sent and never taken: the identity comes again after three flushed writes; %s.' % between)
     a = bytes.fromhex('77889900')
-    again = same_check(kit, 0, 1, a) if between == 'another payload with the same check' else a
+    again = same_check(kit, 0, 1, a, 1) if between == 'another payload with the same check' else a
     s.cell([4], [0], retr=0x00)
     s.put(1, a)
     s.sends(1, 0, 1, a)
@@ -891,20 +954,44 @@ def flushed(kit):
     s.about('the payload written last is sent as ever')
     s.delivers(1, 0, 3, a)
     s.takes(0, a)
+    s.about('flushed in Tuning')
+    s.put(1, a)
+    s('tick 1 13', 'ok 13')
+    s.busy(1)
+    s('command 1 E1', 'ok 0E')
+    s.free(1)
+    s('tick 1 100', 'ok 100')
+    s.reads(1, 0x08, '00')
     s.about('flushed and CE low: Standby')
     s.put(1, a)
-    s.sends(1, 0, 0, a)
+    s.sends(1, 0, 1, a)
     s('ce 1 0', 'ok')
     s('command 1 E1', 'ok 0E')
-    s.answered(0, 0)
+    s.answered(0, 1)
     s('carry 1', 'ok')
     s.status(1, '0E')
     s.put(1, b)
     s('tick 1 40', 'ok 40')
     s('ce 1 1', 'ok')
     s.takes(0, a)
-    s.delivers(1, 0, 1, b)
+    s.delivers(1, 0, 2, b)
     s.takes(0, b)
+    return s
+
+
+def lost_packets(kit):
+    s = Round(kit, 'PLOS_CNT counts to 15 and stays there.')
+    a = bytes.fromhex('B7')
+    s.cell([1], [0], retr=0x00)
+    s.put(1, a)
+    for turn in range(1, 18):
+        s.sends(1, 0, 1, a)
+        s('carry 0', 'ok')
+        s('tick 1 25', 'ok 25')
+        s('command 1 27 10', 'ok 1E')
+        s('command 1 08', 'ok 0E %X0' % min(turn, 15))
+    s.delivers(1, 0, 1, a)
+    s.reads(1, 0x08, 'F0')
     return s
 
 
@@ -1540,15 +1627,15 @@ def cases():
     both = lambda case, *more: [case(kit, *more) for kit in (SMALL, LARGE)]
     yield 'SENDINGS', 'The fates of a sending, for each kind of check and each address width.', [fates_of_sendings(kit) for kit in KITS]
     yield 'ANSWERS', 'The fates of an answer.', [fates_of_answers(kit) for kit in KITS]
-    yield 'MAKING', 'Making a cell.', (both(making) + both(making_too_many) + both(making_used) + both(making_other_masks))
+    yield 'MAKING', 'Making a cell.', (both(making) + [making_rates(SMALL)] + both(making_too_many) + both(making_used) + both(making_other_masks))
     yield 'REFUSALS', 'Refusals of a cell, and of its units.', both(refusals_of_cell) + both(refusals_through_cell)
     yield 'SENDERS', 'One to six senders.', ([each_on_its_pipe(KITS[n - 1], n) for n in range(1, 7)] + both(wrong_length))
     yield 'QUEUES', 'Full queues, repeats, and an identity that comes again.', (
-        both(full_queue) + both(repeats) + [mistaken(kit, how) for kit, how in zip(
+        both(full_queue) + both(repeats) + both(same_check_other_identity) + [mistaken(kit, how) for kit, how in zip(
             (SMALL, LARGE, KITS[1], KITS[4], SMALL, LARGE), ('not read', 'read before', 'flushed before', 'powered down between',
                                                              'another payload with the same check', 'another payload with the same check'))])
     yield 'TRANSACTIONS', 'Giving up, and FLUSH_TX.', (
-        [giving_up(SMALL, 0, 0), giving_up(LARGE, 0, 3), giving_up(KITS[4], 2, 1), giving_up(KITS[2], 15, 15)] + both(flushed) + both(deaf))
+        [giving_up(SMALL, 0, 0), giving_up(LARGE, 0, 3), giving_up(KITS[4], 2, 1), giving_up(KITS[2], 15, 15)] + both(flushed) + both(deaf) + [lost_packets(LARGE)])
     yield 'MODES', 'Times, the level of CE, power and interrupts in a cell.', both(last_ticks) + both(interrupts)
     yield 'BOXED', 'Boxed units that are in no cell.', both(boxed_units) + both(boxed_with_fault)
     yield 'WANDERING', 'Random calls.', [wander('%d-%d' % (SEED, n)) for n in range(KEPT)]
