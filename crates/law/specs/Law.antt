@@ -22,7 +22,6 @@ use Rattle.law.specs.Runs.{Call, command, ce, tick, carry, Outcome, replied, don
 use Rattle.std.specs.Option.{option_map}
 use Rattle.frames.specs.Packet.{Packet, Bytes, covered}
 use Rattle.unit.specs.Units.{tx_address, retry_of}
-use Rattle.unit.specs.Hearing.{address_width}
 use Rattle.law.specs.Lists.{All, SomeOf, In}
 
 -- ==== what is written down
