@@ -101,39 +101,27 @@ fn is_tuned_alike(receiver: &Registers, sender: &Registers) -> bool
         && has_bit_of(receiver, sender, Register::Config, 2)
 }
 
-// The pipe is enabled and has the address in use of the sender.
-fn is_on_pipe(receiver: &Registers, sender: &Registers, pipe: Pipe) -> bool
-    ensures { result ≡ on_pipe receiver.now (tx_address sender.now) pipe }
-{
-    receiver.is_enabled(pipe)
-        && receiver.pipe_address(pipe)[..receiver.address_width()]
-            == sender.wide(Register::TxAddr)[..sender.address_width()]
-}
-
 // The receiver's pipe with the address of a sender.
-fn pipe_for(receiver: &Registers, sender: &Registers) -> Option<Pipe>
-    ensures { result ≡ pipe_for receiver.now sender.now }
+fn pipe_for(receiver: &State, sender: &State) -> Option<Pipe>
+    ensures { result ≡ pipe_for receiver.now.registers sender.now.registers }
 {
-    Pipe::all()
-        .iter()
-        .find(|pipe| is_on_pipe(receiver, sender, **pipe))
-        .copied()
+    receiver.pipe_of(&sender.tx_address())
 }
 
 // The sender has the pipe.
-fn has_pipe(receiver: &Registers, sender: &Registers, pipe: Pipe) -> bool
-    ensures { result ≡ same_pipe (pipe_for receiver.now sender.now) (Some pipe) }
+fn has_pipe(receiver: &State, sender: &State, pipe: Pipe) -> bool
+    ensures { result ≡ same_pipe (pipe_for receiver.now.registers sender.now.registers) (Some pipe) }
 {
     pipe_for(receiver, sender).is_some_and(|other| other.index() == pipe.index())
 }
 
 // One of these senders has the pipe.
-fn is_taken<C>(receiver: &Registers, senders: &[Boxed<C>], pipe: Pipe) -> bool
-    ensures { result ≡ pipe_taken receiver.now (states senders.now) (Some pipe) }
+fn is_taken<C>(receiver: &State, senders: &[Boxed<C>], pipe: Pipe) -> bool
+    ensures { result ≡ pipe_taken receiver.now.registers (states senders.now) (Some pipe) }
 {
     senders
         .iter()
-        .any(|sender| has_pipe(receiver, &sender.state.registers, pipe))
+        .any(|sender| has_pipe(receiver, &sender.state, pipe))
 }
 
 // ---- the lowest unit at fault
@@ -148,21 +136,19 @@ fn fits_as_receiver<C: Check>(unit: &State) -> bool
 const MOST_SENDERS: usize = 6;
 
 // One more sender, after some earlier ones.
-fn fits_as_sender<C: Check>(receiver: &Registers, earlier: &[Boxed<C>], unit: &State) -> bool
-    ensures { result ≡ (nat_lt (length earlier.now) 6 && sender_fits C.Check.W receiver.now (states earlier.now) unit.now) }
+fn fits_as_sender<C: Check>(receiver: &State, earlier: &[Boxed<C>], unit: &State) -> bool
+    ensures { result ≡ (nat_lt (length earlier.now) 6 && sender_fits C.Check.W receiver.now.registers (states earlier.now) unit.now) }
 {
     earlier.len() < MOST_SENDERS
         && is_as_boxed::<C>(unit)
         && !unit.registers.is_receiver()
-        && is_tuned_alike(receiver, &unit.registers)
-        && pipe_for(receiver, &unit.registers).is_some_and(|pipe| !is_taken(
-            receiver, earlier, pipe,
-        ))
+        && is_tuned_alike(&receiver.registers, &unit.registers)
+        && pipe_for(receiver, unit).is_some_and(|pipe| !is_taken(receiver, earlier, pipe))
 }
 
 // Without a sender it is unit 1.
-fn sender_at_fault<C: Check>(receiver: &Registers, senders: &[Boxed<C>]) -> Option<u8>
-    ensures { result ≡ senders_at_fault C.Check.W receiver.now (states senders.now) }
+fn sender_at_fault<C: Check>(receiver: &State, senders: &[Boxed<C>]) -> Option<u8>
+    ensures { result ≡ senders_at_fault C.Check.W receiver.now.registers (states senders.now) }
 {
     if senders.is_empty() {
         return Some(1);
@@ -183,7 +169,7 @@ fn unit_at_fault<C: Check>(units: &[Boxed<C>]) -> Option<u8>
         return Some(0);
     };
     if fits_as_receiver::<C>(&receiver.state) {
-        sender_at_fault(&receiver.state.registers, senders)
+        sender_at_fault(&receiver.state, senders)
     } else {
         Some(0)
     }

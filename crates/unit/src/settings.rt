@@ -39,7 +39,7 @@ impl State {
     }
 
     // The address to which a sender sends.
-    pub(crate) fn tx_address(&self) -> Address
+    pub fn tx_address(&self) -> Address
         ensures { address_bytes result ≡ tx_address self.now.registers }
     {
         Address::of_low_bytes(self.registers.wide(Register::TxAddr), self.address_width())

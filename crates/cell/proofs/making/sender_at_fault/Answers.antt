@@ -8,7 +8,7 @@ use Rattle.cell.proofs.making.sender_at_fault.Goals as goal
 pub returns-then-not-fits_as_sender : goal.returns-then-not-fits_as_sender
 returns-then-not-fits_as_sender g c =
     let w = g.C.Check.W in
-    let r = c.args.receiver.now in
+    let r = c.args.receiver.now.registers in
     let us = c.args.senders.now in
     let n = next_sender w r us c.loop-i.i c.index-senders-i.result c.fits_as_sender.result c.loop-i-test.true c.index-senders-i.is c.fits_as_sender.ensures in
     let one : 1 ≤ length us = omega (arith, c.loop-i-test.true) in
@@ -20,7 +20,7 @@ returns-then-not-fits_as_sender g c =
 pub loop-i-preserved : goal.loop-i-preserved
 loop-i-preserved g c =
     let w = g.C.Check.W in
-    let r = c.args.receiver.now in
+    let r = c.args.receiver.now.registers in
     let us = c.args.senders.now in
     let i = c.loop-i.i in
     let n = next_sender w r us i c.index-senders-i.result c.fits_as_sender.result c.loop-i-test.true c.index-senders-i.is c.fits_as_sender.ensures in
@@ -34,7 +34,7 @@ loop-i-preserved g c =
 pub returns : goal.returns
 returns g c =
     let w = g.C.Check.W in
-    let r = c.args.receiver.now in
+    let r = c.args.receiver.now.registers in
     let us = c.args.senders.now in
     let e = at_end w r (states us) c.loop-i.i (rw length-map c.loop-i-test.false) in
     let one : 1 ≤ length us = search rules in
