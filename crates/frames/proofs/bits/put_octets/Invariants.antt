@@ -1,7 +1,5 @@
-use Rattle.std.proofs.Common.{◌≡◌, ◌*◌, take}
-use lib.Seq.{paste}
-use Rattle.checks.specs.Bits.{bits}
+use Rattle.frames.proofs.Words.{Written}
 use Rattle.frames.proofs.bits.put_octets.Given as goal
 
 abbrev pub invariant-loop-i : goal.invariant-loop-i
-invariant-loop-i l = bits l.buf ≡ paste (bits l.initial.buf) l.at (bits (take l.i l.src)) (8 * l.i)
+invariant-loop-i l = Written l.initial.buf l.at l.src l.buf l.last l.i
