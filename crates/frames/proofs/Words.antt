@@ -165,6 +165,31 @@ get_twice b at room rest count first next n small l e f u v =
       rw (o, n) (below_join room rest first next u v),
     )
 
+-- the same in three goes, the second of which are 8 bits
+pub put_thrice :
+    (d b1 b2 b3 : List Bool) (at room rest count v : ℕ) → count ≡ room + rest → 8 ≤ rest → at ≤ length d
+    → b1 ≡ paste d at (word room (v / 2 ^ rest)) room → b2 ≡ paste b1 (at + room) (word 8 (v / 2 ^ (rest - 8))) 8
+    → b3 ≡ paste b2 (at + room + 8) (word (rest - 8) v) (rest - 8) → b3 ≡ paste d at (word count v) count
+put_thrice d b1 b2 b3 at room rest count v n le l e1 e2 e3 =
+    let k : rest - 8 + 8 ≡ rest = omega arith in
+    let high : v / 2 ^ rest ≡ v / 2 ^ (rest - 8) / 2 ^ 8 = ap (λ (m : ℕ). v / 2 ^ m) (sym k) ∙ sym (shr-shr v (rest - 8) 8) in
+    let on : at + room + 8 ≡ at + (room + 8) = omega arith in
+    put_twice d b2 b3 at (room + 8) (rest - 8) count v (omega arith) l
+    (put_twice d b1 b2 at room 8 (room + 8) (v / 2 ^ (rest - 8)) refl l (e1 ∙ ap (λ (x : ℕ). paste d at (word room x) room) high) e2)
+    (e3 ∙ ap (λ (m : ℕ). paste b2 m (word (rest - 8) v) (rest - 8)) on)
+
+pub get_thrice :
+    (b : List Bool) (at room rest count first second third : ℕ) → count ≡ room + rest → 8 ≤ rest → count ≤ 16 → at + count ≤ length b
+    → first ≡ number (take room (drop at b)) → second ≡ number (take 8 (drop (at + room) b)) → third ≡ number (take (rest - 8) (drop (at + room + 8) b))
+    → first < 2 ^ room → second < 2 ^ 8 → third < 2 ^ (rest - 8)
+    → (bit_or (bit_or (first * 256 % 65536) second * 2 ^ (rest - 8) % 65536) third ≡ number (take count (drop at b)))
+    × (bit_or (bit_or (first * 256 % 65536) second * 2 ^ (rest - 8) % 65536) third < 2 ^ count)
+get_thrice b at room rest count first second third n le small l e1 e2 e3 u1 u2 u3 =
+    let h = get_twice b at room 8 (room + 8) first second refl (omega arith) (omega arith) e1 e2 u1 u2 in
+    let on : at + room + 8 ≡ at + (room + 8) = omega arith in
+    get_twice b at (room + 8) (rest - 8) count (bit_or (first * 256 % 65536) second) third (omega arith) small l
+    h.0 (e3 ∙ ap (λ (m : ℕ). number (take (rest - 8) (drop m b))) on) h.1 u3
+
 -- ---- whole bytes
 
 -- bytes copied from a byte's start on
@@ -248,7 +273,7 @@ Written old at src now last i =
     (bits (take (at / 8 + i) now) ++ drop (8 - at % 8) (word 8 last) ≡ take at (bits old) ++ bits (take i src))
     × (drop (at / 8 + i) now ≡ drop (at / 8 + i) old)
 
-pub written_none :
+written_none :
     (old : List ℕ) (at : ℕ) (src : List ℕ) (last : ℕ) → at / 8 < length old
     → word 8 last ≡ take 8 (drop (at % 8) (word 8 0 ++ word 8 (get_or old (at / 8) 0))) → Written old at src old last 0
 unfolding bits
@@ -290,6 +315,17 @@ written_more old at src now last i b y hs hn eb e w =
           ∙ append_assoc (take at (bits old)) (bits (take i src)) a ∙ ap (λ (u : List Bool). take at (bits old) ++ u) (sym src'),
       rw n (drop-set-lt (k + 1) now k y (omega arith) ∙ step now ∙ ap (drop 1) w.1 ∙ sym (step old)),
     )
+
+-- the first byte is written
+pub written_first :
+    (old : List ℕ) (at : ℕ) (src : List ℕ) (before y : ℕ) → 0 < length src → at / 8 < length old
+    → word 8 before ≡ take 8 (drop (at % 8) (word 8 0 ++ word 8 (get_or old (at / 8) 0)))
+    → word 8 y ≡ take 8 (drop (8 - at % 8) (word 8 before ++ word 8 (get_or src 0 0)))
+    → Written old at src (set old (at / 8) y) (get_or src 0 0) 1
+written_first old at src before y hs ho eb ey =
+    let k : at / 8 + 0 ≡ at / 8 = omega arith in
+    subst (λ (m : ℕ). Written old at src (set old m y) (get_or src 0 0) 1) k
+    (written_more old at src old before 0 (get_or src 0 0) y hs (omega arith) refl ey (written_none old at src before ho eb))
 
 pub written_all :
     (old : List ℕ) (at : ℕ) (src now : List ℕ) (last rest z : ℕ) → at / 8 + length src < length now

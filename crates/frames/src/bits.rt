@@ -36,7 +36,8 @@ fn put_within(buf: &mut [u8], at: usize, value: u16, count: usize)
     buf[at / 8] = ((with | old & 0xFF >> (8 - behind)) % 256) as u8;
 }
 
-// The low bits of a number are written from a place on, most significant first; the others stay.
+// The low bits of a number are written from a place on, most significant first; the others stay. They fill the first byte
+// from the place on, and then up to two more.
 pub(crate) fn put_bits(buf: &mut [u8], at: usize, value: u16, count: usize)
     requires { HasBits buf.old at count × (count ≤ 16) }
     ensures { bits buf.new ≡ paste (bits buf.old) at (word count value) count }
@@ -47,9 +48,15 @@ pub(crate) fn put_bits(buf: &mut [u8], at: usize, value: u16, count: usize)
     }
     if count <= room {
         put_within(buf, at, value, count);
+        return;
+    }
+    let rest = count - room;
+    put_within(buf, at, value >> rest, room);
+    if rest <= 8 {
+        put_within(buf, at + room, value, rest);
     } else {
-        put_within(buf, at, value >> (count - room), room);
-        put_bits(buf, at + room, value, count - room);
+        put_within(buf, at + room, value >> (rest - 8), 8);
+        put_within(buf, at + room + 8, value, rest - 8);
     }
 }
 
@@ -76,11 +83,15 @@ pub(crate) fn get_bits(buf: &[u8], at: usize, count: usize) -> u16
         return 0;
     }
     if count <= room {
-        get_within(buf, at, count)
-    } else {
-        let rest = count - room;
-        get_within(buf, at, room) << rest | get_bits(buf, at + room, rest)
+        return get_within(buf, at, count);
     }
+    let rest = count - room;
+    let first = get_within(buf, at, room);
+    if rest <= 8 {
+        return first << rest | get_within(buf, at + room, rest);
+    }
+    let second = first << 8 | get_within(buf, at + room, 8);
+    second << (rest - 8) | get_within(buf, at + room + 8, rest - 8)
 }
 
 // The byte that begins at a place of two bytes in a row.
@@ -99,19 +110,23 @@ pub(crate) fn put_octets(buf: &mut [u8], at: usize, src: &[u8])
 {
     let start = at / 8;
     let place = at % 8;
+    let bytes = src.len();
     if place == 0 {
-        buf[start..start + src.len()].copy_from_slice(src);
+        buf[start..start + bytes].copy_from_slice(src);
+        return;
+    }
+    if bytes == 0 {
         return;
     }
     // ends with the bits before the place
-    let mut last = across(0, buf[start], place);
-    for (i, b) in src.iter().enumerate() {
-        buf[start + i] = across(last, *b, 8 - place);
-        last = *b;
+    let before = across(0, buf[start], place);
+    buf[start] = across(before, src[0], 8 - place);
+    for i in 1..bytes {
+        buf[start + i] = across(src[i - 1], src[i], 8 - place);
     }
-    let end = start + src.len();
-    let rest = across(buf[end], 0, place);
-    buf[end] = across(last, rest, 8 - place);
+    // begins with the bits behind
+    let behind = across(buf[start + bytes], 0, place);
+    buf[start + bytes] = across(src[bytes - 1], behind, 8 - place);
 }
 
 // Bytes are filled by the bits from a place on.
