@@ -124,6 +124,17 @@ bits_octets (suc k) xs h =
     rw (e, take-add 8 (8 * k) xs)
     (ap₂ (λ (u v : List Bool). u ++ v) (word_number 8 (take 8 xs) l) (bits_octets k (drop 8 xs) (omega (arith, length-drop 8 xs))))
 
+number_on : (a : ℕ) (xs ys : List Bool) → number_after a (xs ++ ys) ≡ number_after (number_after a xs) ys
+unfolding number_after
+number_on a [] ys = refl
+number_on a (x ∷ xs) ys = number_on (a * 2 + digit x) xs ys
+
+-- the number that bits write with more behind them
+pub number_append : (xs ys : List Bool) (k : ℕ) → length ys ≡ k → number (xs ++ ys) ≡ number xs * 2 ^ k + number ys
+number_append xs ys k l =
+    number_on 0 xs ys ∙ sym (ap (number_after (number xs)) (word_number k ys l)) ∙ number_word (number xs) k (number ys)
+    ∙ ap (λ (n : ℕ). number xs * 2 ^ k + n) (mod-eq_of_lt (number_below ys k (omega (arith, l))))
+
 pub octets_front : (k : ℕ) (s t : List Bool) → 8 * k ≤ length s → octets k (s ++ t) ≡ octets k s
 unfolding octets
 octets_front zero s t e = refl
@@ -165,9 +176,15 @@ unfolding word
 zeros zero = refl
 zeros (suc k) = ap₂ (λ (x : Bool) (xs : List Bool). x ∷ xs) (ap (λ (n : ℕ). eqb (n % 2) 1) (zero-div (2 ^ k))) (zeros k)
 
+pub number_of_word : (k v : ℕ) → number (word k v) ≡ v % 2 ^ k
+number_of_word k v = number_word 0 k v ∙ omega arith
+
+-- as many low bits are the same where the numbers that they write are
+pub same_number : (k u v : ℕ) → u % 2 ^ k ≡ v % 2 ^ k → word k u ≡ word k v
+same_number k u v e =
+    (same_after (word k u) (word k v) (length_word k u ∙ sym (length_word k v)) 0 0
+    (number_of_word k u ∙ e ∙ sym (number_of_word k v))).1
+
 -- the low bits of a multiple of their power are 0
 pub word_low : (k v : ℕ) → v % 2 ^ k ≡ 0 → word k v ≡ replicate k false
-word_low k v e =
-    (same_after (word k v) (word k 0) (length_word k v ∙ sym (length_word k 0)) 0 0
-    (number_word 0 k v ∙ ap (λ (n : ℕ). 0 * 2 ^ k + n) (e ∙ sym (zero-mod (2 ^ k))) ∙ sym (number_word 0 k 0))).1
-    ∙ zeros k
+word_low k v e = same_number k v 0 (e ∙ sym (zero-mod (2 ^ k))) ∙ zeros k

@@ -40,7 +40,7 @@ unfolding bits
 bits_append [] ys = refl
 bits_append (x ∷ xs) ys = ap (λ (l : List Bool). word 8 x ++ l) (bits_append xs ys) ∙ sym (append_assoc (word 8 x) (bits xs) (bits ys))
 
-bits_one : (x : ℕ) → bits (x ∷ []) ≡ word 8 x
+pub bits_one : (x : ℕ) → bits (x ∷ []) ≡ word 8 x
 unfolding bits
 bits_one x = append-nil (word 8 x)
 

@@ -2,7 +2,7 @@
 // part of a slice has an iterator over its bits. A bit of a number is one expression, since `bit_at` reads byte strings;
 // `get_bits` sums in a loop and no fold: that the sum stays in 16 bits is an invariant of the loop. Each call takes its place `at`, and there is no cursor that keeps one:
 // the callers jump to the places that a frame's layout gives.
-ghost use Rattle.std.specs.Prelude.{◌≡◌, ℕ, ◌+◌, ◌-◌, ◌*◌, ◌^◌, ◌<◌, ◌≤◌, false, length, take, drop, slice_index, slice_set};
+ghost use Rattle.std.specs.Prelude.{◌≡◌, ℕ, ◌+◌, ◌-◌, ◌*◌, ◌%◌, ◌^◌, ◌<◌, ◌≤◌, ◌++◌, false, length, take, drop, slice_index, slice_set};
 ghost use Rattle.std.proofs.Math.Seq.{paste};
 ghost use Rattle.checks.specs.Bits.{word, bits};
 ghost use Rattle.frames.specs.Octets.{number, octets, HasBits};
@@ -22,14 +22,54 @@ pub(crate) fn put_bit(buf: &mut [u8], at: usize, bit: bool)
     }
 }
 
-// The low bits of a number are written from a place on, most significant first; the others stay.
+// The low bits of a number are written within one byte, most significant first; the others stay.
+fn put_within(buf: &mut [u8], at: usize, value: u16, count: usize)
+    requires fits { at % 8 + count ≤ 8 }
+    requires room { at + count ≤ 8 * length buf.old }
+    requires some { 0 < count }
+    ensures { bits buf.new ≡ paste (bits buf.old) at (word count value) count }
+{
+    let old = buf[at / 8] as u16;
+    let behind = 8 - at % 8 - count;
+    let before = old >> (behind + count) << count;
+    let with = (before | value & 0xFF >> (8 - count)) << behind;
+    buf[at / 8] = ((with | old & 0xFF >> (8 - behind)) % 256) as u8;
+}
+
+// The low bits of a number are written from a place on, most significant first; the others stay. They fill the first byte
+// from the place on, and then up to two more.
 pub(crate) fn put_bits(buf: &mut [u8], at: usize, value: u16, count: usize)
     requires { HasBits buf.old at count × (count ≤ 16) }
     ensures { bits buf.new ≡ paste (bits buf.old) at (word count value) count }
 {
-    for i in 0..count {
-        put_bit(buf, at + i, value >> (count - 1 - i) & 1 == 1);
+    let room = 8 - at % 8;
+    if count == 0 {
+        return;
     }
+    if count <= room {
+        put_within(buf, at, value, count);
+        return;
+    }
+    let rest = count - room;
+    put_within(buf, at, value >> rest, room);
+    if rest <= 8 {
+        put_within(buf, at + room, value, rest);
+    } else {
+        put_within(buf, at + room, value >> (rest - 8), 8);
+        put_within(buf, at + room + 8, value, rest - 8);
+    }
+}
+
+// The number that bits within one byte write, most significant first.
+fn get_within(buf: &[u8], at: usize, count: usize) -> u16
+    requires fits { at % 8 + count ≤ 8 }
+    requires room { at + count ≤ 8 * length buf.now }
+    requires some { 0 < count }
+    ensures value { result ≡ number (take count (drop at (bits buf.now))) }
+    ensures below { result < 2 ^ count }
+{
+    let behind = 8 - at % 8 - count;
+    buf[at / 8] as u16 >> behind & 0xFF >> (8 - count)
 }
 
 // The number that the bits from a place on write, most significant first.
@@ -38,11 +78,29 @@ pub(crate) fn get_bits(buf: &[u8], at: usize, count: usize) -> u16
     ensures value { result ≡ number (take count (drop at (bits buf.now))) }
     ensures below { result < 2 ^ count }
 {
-    let mut v: u16 = 0;
-    for i in 0..count {
-        v = v * 2 + u16::from(bit_at(buf, at + i));
+    let room = 8 - at % 8;
+    if count == 0 {
+        return 0;
     }
-    v
+    if count <= room {
+        return get_within(buf, at, count);
+    }
+    let rest = count - room;
+    let first = get_within(buf, at, room);
+    if rest <= 8 {
+        return first << rest | get_within(buf, at + room, rest);
+    }
+    let second = first << 8 | get_within(buf, at + room, 8);
+    second << (rest - 8) | get_within(buf, at + room + 8, rest - 8)
+}
+
+// The byte that begins at a place of two bytes in a row.
+fn across(first: u8, next: u8, place: usize) -> u8
+    requires { place ≤ 8 }
+    ensures { word 8 result ≡ take 8 (drop place (word 8 first ++ word 8 next)) }
+{
+    let both = (first as u16) << 8 | next as u16;
+    ((both >> (8 - place)) % 256) as u8
 }
 
 // Bytes are written from a place on that need not be a byte's start; the other bits stay.
@@ -50,9 +108,25 @@ pub(crate) fn put_octets(buf: &mut [u8], at: usize, src: &[u8])
     requires { HasBits buf.old at (8 * length src.now) }
     ensures { bits buf.new ≡ paste (bits buf.old) at (bits src.now) (8 * length src.now) }
 {
-    for (i, b) in src.iter().enumerate() {
-        put_bits(buf, at + 8 * i, u16::from(*b), 8);
+    let start = at / 8;
+    let place = at % 8;
+    let bytes = src.len();
+    if place == 0 {
+        buf[start..start + bytes].copy_from_slice(src);
+        return;
     }
+    if bytes == 0 {
+        return;
+    }
+    // ends with the bits before the place
+    let before = across(0, buf[start], place);
+    buf[start] = across(before, src[0], 8 - place);
+    for i in 1..bytes {
+        buf[start + i] = across(src[i - 1], src[i], 8 - place);
+    }
+    // begins with the bits behind
+    let behind = across(buf[start + bytes], 0, place);
+    buf[start + bytes] = across(src[bytes - 1], behind, 8 - place);
 }
 
 // Bytes are filled by the bits from a place on.
@@ -60,8 +134,14 @@ pub(crate) fn get_octets(buf: &[u8], at: usize, out: &mut [u8])
     requires { HasBits buf.now at (8 * length out.old) }
     ensures { out.new ≡ octets (length out.old) (drop at (bits buf.now)) }
 {
+    let start = at / 8;
+    let place = at % 8;
+    if place == 0 {
+        out.copy_from_slice(&buf[start..start + out.len()]);
+        return;
+    }
     for (i, byte) in out.iter_mut().enumerate() {
-        *byte = get_bits(buf, at + 8 * i, 8) as u8;
+        *byte = across(buf[start + i], buf[start + i + 1], place);
     }
 }
 

@@ -1,29 +1,46 @@
-use Rattle.std.proofs.Common.{◌≡◌, ℕ, ◌+◌, ◌*◌, ◌<◌, ◌≤◌, Bool, true, false, length, get_or, take, drop, sym, refl, ap, ◌∙◌, ap₂, pow-suc, add-one, arith}
-use Rattle.std.specs.Int.{from_bool}
-use Rattle.std.proofs.lemmas.List.{take_more, get_or-drop, length-drop}
+use Rattle.std.proofs.Common.{◌-◌, ◌%◌, refl, arith}
 use Rattle.checks.specs.Bits.{bits}
-use Rattle.frames.specs.Octets.{digit, number_after, number}
 use Rattle.checks.specs.Places.{length_bits}
-use Rattle.frames.proofs.Places.{number_push}
+use Rattle.frames.specs.Octets.{number_after}
+use Rattle.frames.proofs.Words.{get_twice, get_thrice}
 use Rattle.frames.proofs.bits.get_bits.Goals as goal
 
-byte_of : (b : Bool) → (from_bool b ≡ digit b) × (from_bool b ≤ 1)
-byte_of true = (refl, omega arith)
-byte_of false = (refl, omega arith)
-
-pub loop-i-init : goal.loop-i-init
+pub returns-then-count-eq0-clause-value : goal.returns-then-count-eq0-clause-value
 unfolding number_after
-loop-i-init c = (refl, omega arith)
+returns-then-count-eq0-clause-value c = rw c.if-count-eq0.true refl
 
-pub loop-i-preserved : goal.loop-i-preserved
-loop-i-preserved c =
-    let bs = bits c.args.buf.now in
-    let at = c.args.at in
-    let i = c.loop-i.i in
-    let lt : i < length (drop at bs) = omega (arith, length-drop at bs, length_bits c.args.buf.now) in
-    let bit : c.bit_at.result ≡ get_or (drop at bs) i false = c.bit_at.ensures ∙ sym (get_or-drop at bs i false) in
-    let e = byte_of c.bit_at.result in (
-      ap₂ (λ (x y : ℕ). x * 2 + y) c.loop-i.invariant.0 (c.from.ensures ∙ e.0 ∙ ap digit bit)
-          ∙ sym (ap number (take_more (drop at bs) i false lt) ∙ number_push 0 (take i (drop at bs)) (get_or (drop at bs) i false)),
-      rw add-one (omega (arith, pow-suc 2 i, e.1, c.from.ensures, c.loop-i.invariant.1)),
-    )
+pub returns-then-rest-le8-clause-value : goal.returns-then-rest-le8-clause-value
+returns-then-rest-le8-clause-value c =
+    let room = 8 - c.args.at % 8 in
+    let f = c.get_within-first in
+    let s = c.get_within-then-rest-le8 in
+    (get_twice (bits c.args.buf.now) c.args.at room (c.args.count - room) c.args.count f.result s.result
+    (omega arith) (omega arith) (omega (arith, length_bits c.args.buf.now)) f.ensures.value s.ensures.value f.ensures.below s.ensures.below).0
+
+pub returns-then-rest-le8-clause-below : goal.returns-then-rest-le8-clause-below
+returns-then-rest-le8-clause-below c =
+    let room = 8 - c.args.at % 8 in
+    let f = c.get_within-first in
+    let s = c.get_within-then-rest-le8 in
+    (get_twice (bits c.args.buf.now) c.args.at room (c.args.count - room) c.args.count f.result s.result
+    (omega arith) (omega arith) (omega (arith, length_bits c.args.buf.now)) f.ensures.value s.ensures.value f.ensures.below s.ensures.below).1
+
+pub returns-clause-value : goal.returns-clause-value
+returns-clause-value c =
+    let room = 8 - c.args.at % 8 in
+    let f = c.get_within-first in
+    let s = c.get_within-2 in
+    let t = c.get_within-3 in
+    (get_thrice (bits c.args.buf.now) c.args.at room (c.args.count - room) c.args.count f.result s.result t.result
+    (omega arith) (omega arith) (omega arith) (omega (arith, length_bits c.args.buf.now))
+    f.ensures.value s.ensures.value t.ensures.value f.ensures.below s.ensures.below t.ensures.below).0
+
+pub returns-clause-below : goal.returns-clause-below
+returns-clause-below c =
+    let room = 8 - c.args.at % 8 in
+    let f = c.get_within-first in
+    let s = c.get_within-2 in
+    let t = c.get_within-3 in
+    (get_thrice (bits c.args.buf.now) c.args.at room (c.args.count - room) c.args.count f.result s.result t.result
+    (omega arith) (omega arith) (omega arith) (omega (arith, length_bits c.args.buf.now))
+    f.ensures.value s.ensures.value t.ensures.value f.ensures.below s.ensures.below t.ensures.below).1

@@ -1,20 +1,18 @@
-use Rattle.std.proofs.Common.{ℕ, ◌+◌, ◌-◌, ◌/◌, ◌^◌, Bool, false, eqb, List, set, sym, ap, ◌∙◌, ap₂, arith}
-use Rattle.std.proofs.lemmas.Nat.{and_mask}
-use Rattle.std.proofs.lemmas.List.Edits.{paste_none, paste_more}
-use Rattle.checks.specs.Bits.{bits, word}
-use Rattle.checks.specs.Places.{bit_of_word, length_word, length_bits}
+use Rattle.std.proofs.Common.{◌-◌, ◌%◌, arith}
+use Rattle.checks.specs.Bits.{bits}
+use Rattle.checks.specs.Places.{length_bits}
+use Rattle.frames.proofs.Words.{put_twice, put_thrice}
 use Rattle.frames.proofs.bits.put_bits.Goals as goal
 
-pub loop-i-init : goal.loop-i-init
-loop-i-init c = paste_none (bits c.args.buf.now) c.args.at (word c.args.count c.args.value)
+pub returns-then-rest-le8 : goal.returns-then-rest-le8
+returns-then-rest-le8 c =
+    let room = 8 - c.args.at % 8 in
+    put_twice (bits c.args.buf.now) _ _ c.args.at room (c.args.count - room) c.args.count c.args.value
+    (omega arith) (omega (arith, length_bits c.args.buf.now)) c.put_within-2.ensures c.put_within-then-rest-le8.ensures
 
-pub loop-i-preserved : goal.loop-i-preserved
-loop-i-preserved c =
-    let n = c.args.count in
-    let v = c.args.value in
-    let i = c.loop-i.i in
-    let bit = ap (λ (x : ℕ). eqb x 1) (and_mask (v / 2 ^ (n - 1 - i)) 1) ∙ sym (bit_of_word n v i (omega arith)) in
-    c.put_bit.ensures
-    ∙ ap₂ (λ (xs : List Bool) (b : Bool). set xs (c.args.at + i) b) c.loop-i.invariant bit
-    ∙ paste_more (bits c.args.buf.now) c.args.at (word n v) i false
-    (omega (arith, length_bits c.args.buf.now)) (omega (arith, length_word n v))
+pub returns-else-rest-le8 : goal.returns-else-rest-le8
+returns-else-rest-le8 c =
+    let room = 8 - c.args.at % 8 in
+    put_thrice (bits c.args.buf.now) _ _ _ c.args.at room (c.args.count - room) c.args.count c.args.value
+    (omega arith) (omega arith) (omega (arith, length_bits c.args.buf.now))
+    c.put_within-2.ensures c.put_within-else-rest-le8.ensures c.put_within-else-rest-le8-2.ensures

@@ -1,0 +1,361 @@
+-- Numbers cut and joined, in bits; a byte in the bits of its buffer.
+use Rattle.std.proofs.Common.{◌≡◌, ℕ, zero, suc, ◌+◌, ◌-◌, ◌*◌, ◌/◌, ◌%◌, ◌^◌, ◌<◌, ◌≤◌, Bool, eqb, List, [], ◌∷◌, ◌++◌, length, get_or, take, drop, set, sym, refl, ap, ◌∙◌, subst, ap₂, arith, mod-eq_of_lt, mul-le-mul_right, suc-add, zero-add, take-append-drop, take-add, length-append, inl, inr}
+use Rattle.std.specs.Int.Bits.{bit_and, bit_or}
+use lib.Seq.{paste, take-append-add, drop-append-add}
+use Rattle.std.proofs.lemmas.Nat.{and_mask, or_shifted, shr-shr, shr_high, mod_low, mod_below, pow_pos, pow-add, shl_whole, shr_below}
+use Rattle.std.proofs.lemmas.Nat.Bits.{ones_shr}
+use Rattle.std.proofs.lemmas.List.{append_assoc, append-nil, take_all, take_at, drop_at, take-append-le, drop-append-le, length-take-le, length-drop, drop-drop, drop_more, take_more, take_more_set, set_split, drop-set-lt, length-take, get_or-take, get_or-drop, get_or_past}
+use Rattle.std.proofs.lemmas.Bool.{cases_lt}
+use Rattle.std.proofs.lemmas.List.Edits.{paste-paste, paste_all}
+use Rattle.checks.specs.Bits.{word, bits}
+use Rattle.checks.specs.Places.{length_word, length_bits}
+use Rattle.frames.specs.Octets.{number, octets}
+use Rattle.frames.proofs.Octets.{same_number, bits_drop, number_append, number_back, octets_back, octets_front}
+use Rattle.frames.proofs.Places.{bits_append, bits_one}
+
+-- ---- a number of two parts
+
+pub word_split : (a b v : ℕ) → word (a + b) v ≡ word a (v / 2 ^ b) ++ word b v
+unfolding word
+word_split zero b v = rw zero-add refl
+word_split (suc a) b v =
+    rw suc-add
+    (ap₂ (λ (x : Bool) (xs : List Bool). x ∷ xs)
+    (ap (λ (n : ℕ). eqb (n % 2) 1) (sym (shr-shr v b a ∙ ap (λ (n : ℕ). v / 2 ^ n) (omega arith))))
+    (word_split a b v))
+
+-- the low bits are those of the low part
+pub word_mod : (k v : ℕ) → word k (v % 2 ^ k) ≡ word k v
+word_mod k v = same_number k (v % 2 ^ k) v (mod-eq_of_lt (mod_below v (2 ^ k) (pow_pos k)))
+
+pub word_join : (a b h l : ℕ) → l < 2 ^ b → word (a + b) (h * 2 ^ b + l) ≡ word a h ++ word b l
+word_join a b h l lt =
+    word_split a b (h * 2 ^ b + l)
+    ∙ ap₂ (λ (x : ℕ) (y : List Bool). word a x ++ y) (shr_high h b l lt) (same_number b (h * 2 ^ b + l) l (mod_low h b l lt ∙ sym (mod-eq_of_lt lt)))
+
+pub below_join : (a b h l : ℕ) → h < 2 ^ a → l < 2 ^ b → h * 2 ^ b + l < 2 ^ (a + b)
+below_join a b h l u v =
+    let m : suc h * 2 ^ b ≤ 2 ^ a * 2 ^ b = mul-le-mul_right (2 ^ b) u in
+    rw pow-add (omega (arith, m, v))
+
+-- the bits of a number from a place on
+pub word_part : (a b c v : ℕ) → take b (drop a (word (a + b + c) v)) ≡ word b (v / 2 ^ c)
+word_part a b c v =
+    rw (word_split (a + b) c v, word_split a b (v / 2 ^ c))
+    (ap (take b) (ap (drop a) (append_assoc (word a (v / 2 ^ c / 2 ^ b)) (word b (v / 2 ^ c)) (word c v))
+    ∙ drop_at (word a (v / 2 ^ c / 2 ^ b)) (word b (v / 2 ^ c) ++ word c v) a (length_word a (v / 2 ^ c / 2 ^ b)))
+    ∙ take_at (word b (v / 2 ^ c)) (word c v) b (length_word b (v / 2 ^ c)))
+
+-- ---- what the code reckons
+
+-- the ones of a mask
+pub ones : (v k : ℕ) → k ≤ 8 → bit_and v (255 / 2 ^ (8 - k)) ≡ v % 2 ^ k
+ones v k le =
+    let s : 8 - (8 - k) ≡ k = omega arith in
+    ap (bit_and v) (ones_shr 8 (8 - k) (omega arith) ∙ ap (λ (n : ℕ). 2 ^ n - 1) s) ∙ and_mask v k
+
+-- a number shifted, with another in the place that is free
+joined : (a b h l : ℕ) → h < 2 ^ a → l < 2 ^ b → a + b ≤ 16 → bit_or (h * 2 ^ b % 65536) l ≡ h * 2 ^ b + l
+joined a b h l u v le = ap (λ (n : ℕ). bit_or n l) (shl_whole h a b 16 u le) ∙ or_shifted h b l v
+
+pub across_right :
+    (x y place : ℕ) → x < 256 → y < 256 → place ≤ 8
+    → word 8 (bit_or (x * 256 % 65536) y / 2 ^ (8 - place) % 256) ≡ take 8 (drop place (word 8 x ++ word 8 y))
+across_right x y place hx hy le =
+    let both = bit_or (x * 256 % 65536) y in
+    let e : both ≡ x * 2 ^ 8 + y = joined 8 8 x y hx hy (omega arith) in
+    let s : place + 8 + (8 - place) ≡ 8 + 8 = omega arith in
+    word_mod 8 (both / 2 ^ (8 - place)) ∙ sym (word_part place 8 (8 - place) both)
+    ∙ ap (λ (w : List Bool). take 8 (drop place w)) (ap₂ word s e ∙ word_join 8 8 x y hy)
+
+pub within_right :
+    (x v j c e : ℕ) → x < 256 → j + c + e ≡ 8
+    → word 8 (bit_or (bit_or (x / 2 ^ (e + c) * 2 ^ c % 65536) (bit_and v (255 / 2 ^ (8 - c))) * 2 ^ e % 65536) (bit_and x (255 / 2 ^ (8 - e))) % 256)
+    ≡ paste (word 8 x) j (word c v) c
+within_right x v j c e hx n =
+    let h = x / 2 ^ (e + c) in
+    let q : j + (e + c) ≡ 8 = omega arith in
+    let hh : h < 2 ^ j = shr_below x j (e + c) (subst (λ (k : ℕ). x < 2 ^ k) (sym q) hx) in
+    let lv = mod_below v (2 ^ c) (pow_pos c) in
+    let lx = mod_below x (2 ^ e) (pow_pos e) in
+    let m = h * 2 ^ c + v % 2 ^ c in
+    let a1 = ap (bit_or (h * 2 ^ c % 65536)) (ones v c (omega arith)) ∙ joined j c h (v % 2 ^ c) hh lv (omega arith) in
+    let a2 =
+    ap₂ (λ (u w : ℕ). bit_or (u * 2 ^ e % 65536) w) a1 (ones x e (omega arith))
+    ∙ joined (j + c) e m (x % 2 ^ e) (below_join j c h (v % 2 ^ c) hh lv) lx (omega arith) in
+    let w1 : word (j + c + e) (m * 2 ^ e + x % 2 ^ e) ≡ word j h ++ word c v ++ word e x =
+    word_join (j + c) e m (x % 2 ^ e) lx
+    ∙ ap₂ (λ (u w : List Bool). u ++ w) (word_join j c h (v % 2 ^ c) lv ∙ ap (λ (w : List Bool). word j h ++ w) (word_mod c v)) (word_mod e x) in
+    let f : take j (word 8 x) ≡ word j h = rw (← q) (ap (take j) (word_split j (e + c) x) ∙ take_at (word j h) (word (e + c) x) j (length_word j h)) in
+    let d : drop (j + c) (word 8 x) ≡ word e x =
+    rw (← n) (ap (drop (j + c)) (word_split (j + c) e x) ∙ drop_at (word (j + c) (x / 2 ^ e)) (word e x) (j + c) (length_word (j + c) (x / 2 ^ e))) in
+    let t : take c (word c v) ≡ word c v = take_all c (word c v) (omega (arith, length_word c v)) in
+    word_mod 8 _ ∙ ap (word 8) a2 ∙ ap (λ (k : ℕ). word k (m * 2 ^ e + x % 2 ^ e)) (sym n) ∙ w1
+    ∙ sym (ap₂ (λ (u w : List Bool). u ++ w) (ap₂ (λ (u w : List Bool). u ++ w) f t) d)
+
+-- ---- bytes in a buffer's bits
+
+pub bits_from : (xs : List ℕ) (i : ℕ) → i < length xs → drop (8 * i) (bits xs) ≡ word 8 (get_or xs i 0) ++ bits (drop (i + 1) xs)
+unfolding bits
+bits_from xs i h = bits_drop i xs ∙ ap bits (drop_more xs i 0 h)
+
+pub bits_take : (k : ℕ) (xs : List ℕ) → k ≤ length xs → take (8 * k) (bits xs) ≡ bits (take k xs)
+bits_take k xs h =
+    ap (take (8 * k)) (ap bits (sym (take-append-drop k xs)) ∙ bits_append (take k xs) (drop k xs))
+    ∙ take_at (bits (take k xs)) (bits (drop k xs)) (8 * k) (omega (arith, length_bits (take k xs), length-take-le k xs h))
+
+-- a write within a byte
+pub put_byte :
+    (xs : List ℕ) (i j k n y : ℕ) (s : List Bool) → i < length xs → j + n ≤ 8 → k ≡ 8 * i + j
+    → word 8 y ≡ paste (word 8 (get_or xs i 0)) j s n → bits (set xs i y) ≡ paste (bits xs) k s n
+unfolding bits
+put_byte [] i j k n y s h l e f = absurd (omega arith)
+put_byte (x ∷ xs) zero j k n y s h l e f =
+    let q : k ≡ j = omega arith in
+    let w = length_word 8 x in
+    rw q
+    (ap (λ (u : List Bool). u ++ bits xs) f ∙ append_assoc (take j (word 8 x) ++ take n s) (drop (j + n) (word 8 x)) (bits xs)
+    ∙ sym (ap₂ (λ (u v : List Bool). u ++ take n s ++ v) (take-append-le j (word 8 x) (bits xs) (omega (arith, w)))
+    (drop-append-le (j + n) (word 8 x) (bits xs) (omega (arith, w)))))
+put_byte (x ∷ xs) (suc i) j k n y s h l e f =
+    let w = word 8 x in
+    let q : k ≡ length w + (k - 8) = omega (arith, length_word 8 x) in
+    let r : k + n ≡ length w + (k - 8 + n) = omega (arith, length_word 8 x) in
+    ap (λ (u : List Bool). w ++ u) (put_byte xs i j (k - 8) n y s (omega arith) l (omega arith) f)
+    ∙ sym (append_assoc w (take (k - 8) (bits xs) ++ take n s) _) ∙ ap (λ (u : List Bool). u ++ drop (k - 8 + n) (bits xs)) (sym (append_assoc w (take (k - 8) (bits xs)) (take n s)))
+    ∙ sym (ap₂ (λ (u v : List Bool). u ++ take n s ++ v) (ap (λ (m : ℕ). take m (w ++ bits xs)) q ∙ take-append-add w (bits xs) (k - 8))
+    (ap (λ (m : ℕ). drop m (w ++ bits xs)) r ∙ drop-append-add w (bits xs) (k - 8 + n)))
+
+-- the bits within a byte
+pub get_byte :
+    (xs : List ℕ) (i j at c e : ℕ) → i < length xs → at ≡ 8 * i + j → j + c + e ≡ 8
+    → take c (drop at (bits xs)) ≡ word c (get_or xs i 0 / 2 ^ e)
+get_byte xs i j at c e h a n =
+    let w = word 8 (get_or xs i 0) in
+    let rest = bits (drop (i + 1) xs) in
+    let l = length_word 8 (get_or xs i 0) in
+    ap (take c) (ap (λ (m : ℕ). drop m (bits xs)) a ∙ sym (drop-drop j (8 * i) (bits xs)) ∙ ap (drop j) (bits_from xs i h)
+    ∙ drop-append-le j w rest (omega (arith, l)))
+    ∙ take-append-le c (drop j w) rest (omega (arith, l, length-drop j w))
+    ∙ ap (λ (m : ℕ). take c (drop j (word m (get_or xs i 0)))) (sym n) ∙ word_part j c e (get_or xs i 0)
+
+-- a number's low bits, written in two goes
+pub put_twice :
+    (d now next : List Bool) (at room rest count v : ℕ) → count ≡ room + rest → at ≤ length d
+    → now ≡ paste d at (word room (v / 2 ^ rest)) room → next ≡ paste now (at + room) (word rest v) rest → next ≡ paste d at (word count v) count
+put_twice d now next at room rest count v n l e f =
+    let p = paste-paste d at (word room (v / 2 ^ rest)) (word rest v) room rest (sym (length_word room (v / 2 ^ rest))) (sym (length_word rest v)) l in
+    let s = word_split room rest v in
+    rw n cc
+
+-- and read in two goes
+pub get_twice :
+    (b : List Bool) (at room rest count first next : ℕ) → count ≡ room + rest → count ≤ 16 → at + count ≤ length b
+    → first ≡ number (take room (drop at b)) → next ≡ number (take rest (drop (at + room) b)) → first < 2 ^ room → next < 2 ^ rest
+    → (bit_or (first * 2 ^ rest % 65536) next ≡ number (take count (drop at b))) × (bit_or (first * 2 ^ rest % 65536) next < 2 ^ count)
+get_twice b at room rest count first next n small l e f u v =
+    let o = joined room rest first next u v (omega arith) in
+    let d = drop room (drop at b) in
+    let q = drop-drop room at b in
+    let m : length (take rest d) ≡ rest = rw q (length-take-le rest (drop (at + room) b) (omega (arith, length-drop (at + room) b))) in (
+      o
+          ∙ sym (ap (λ (k : ℕ). number (take k (drop at b))) n ∙ ap number (take-add room rest (drop at b))
+          ∙ number_append (take room (drop at b)) (take rest d) rest m
+          ∙ ap₂ (λ (x y : ℕ). x * 2 ^ rest + y) (sym e) (ap (λ (t : List Bool). number (take rest t)) q ∙ sym f)),
+      rw (o, n) (below_join room rest first next u v),
+    )
+
+-- the same in three goes, the second of which are 8 bits
+pub put_thrice :
+    (d b1 b2 b3 : List Bool) (at room rest count v : ℕ) → count ≡ room + rest → 8 ≤ rest → at ≤ length d
+    → b1 ≡ paste d at (word room (v / 2 ^ rest)) room → b2 ≡ paste b1 (at + room) (word 8 (v / 2 ^ (rest - 8))) 8
+    → b3 ≡ paste b2 (at + room + 8) (word (rest - 8) v) (rest - 8) → b3 ≡ paste d at (word count v) count
+put_thrice d b1 b2 b3 at room rest count v n le l e1 e2 e3 =
+    let k : rest - 8 + 8 ≡ rest = omega arith in
+    let high : v / 2 ^ rest ≡ v / 2 ^ (rest - 8) / 2 ^ 8 = ap (λ (m : ℕ). v / 2 ^ m) (sym k) ∙ sym (shr-shr v (rest - 8) 8) in
+    let on : at + room + 8 ≡ at + (room + 8) = omega arith in
+    put_twice d b2 b3 at (room + 8) (rest - 8) count v (omega arith) l
+    (put_twice d b1 b2 at room 8 (room + 8) (v / 2 ^ (rest - 8)) refl l (e1 ∙ ap (λ (x : ℕ). paste d at (word room x) room) high) e2)
+    (e3 ∙ ap (λ (m : ℕ). paste b2 m (word (rest - 8) v) (rest - 8)) on)
+
+pub get_thrice :
+    (b : List Bool) (at room rest count first second third : ℕ) → count ≡ room + rest → 8 ≤ rest → count ≤ 16 → at + count ≤ length b
+    → first ≡ number (take room (drop at b)) → second ≡ number (take 8 (drop (at + room) b)) → third ≡ number (take (rest - 8) (drop (at + room + 8) b))
+    → first < 2 ^ room → second < 2 ^ 8 → third < 2 ^ (rest - 8)
+    → (bit_or (bit_or (first * 256 % 65536) second * 2 ^ (rest - 8) % 65536) third ≡ number (take count (drop at b)))
+    × (bit_or (bit_or (first * 256 % 65536) second * 2 ^ (rest - 8) % 65536) third < 2 ^ count)
+get_thrice b at room rest count first second third n le small l e1 e2 e3 u1 u2 u3 =
+    let h = get_twice b at room 8 (room + 8) first second refl (omega arith) (omega arith) e1 e2 u1 u2 in
+    let on : at + room + 8 ≡ at + (room + 8) = omega arith in
+    get_twice b at (room + 8) (rest - 8) count (bit_or (first * 256 % 65536) second) third (omega arith) small l
+    h.0 (e3 ∙ ap (λ (m : ℕ). number (take (rest - 8) (drop m b))) on) h.1 u3
+
+-- ---- whole bytes
+
+-- bytes copied from a byte's start on
+pub get_copied :
+    (xs : List ℕ) (at n : ℕ) → ((i : ℕ) → get_or xs i 0 < 256) → at % 8 ≡ 0 → at + 8 * n ≤ 8 * length xs
+    → take n (drop (at / 8) xs) ≡ octets n (drop at (bits xs))
+get_copied xs at n h e l =
+    let k = at / 8 in
+    let a : at ≡ 8 * k = omega arith in
+    let ys = take n (drop k xs) in
+    let ly : length ys ≡ n = length-take-le n (drop k xs) (omega (arith, length-drop k xs)) in
+    let b : drop at (bits xs) ≡ bits ys ++ bits (drop n (drop k xs)) =
+    ap (λ (m : ℕ). drop m (bits xs)) a ∙ bits_drop k xs ∙ ap bits (sym (take-append-drop n (drop k xs))) ∙ bits_append ys (drop n (drop k xs)) in
+    sym (ap (octets n) b ∙ octets_front n (bits ys) (bits (drop n (drop k xs))) (omega (arith, length_bits ys))
+    ∙ ap (λ (m : ℕ). octets m (bits ys)) (sym ly)
+    ∙ octets_back ys (λ i. below i))
+  where
+    below : (i : ℕ) → get_or (take n (drop (at / 8) xs)) i 0 < 256
+    below i =
+        elim (cases_lt i n) [
+          | inl lt ↦ rw (get_or-take n (drop (at / 8) xs) i 0 lt, get_or-drop (at / 8) xs i 0) (h (at / 8 + i))
+          | inr ge ↦ rw (get_or_past (take n (drop (at / 8) xs)) i 0 (omega (arith, length-take n (drop (at / 8) xs)))) (omega arith)
+        ]
+
+pub put_copied :
+    (xs ys : List ℕ) (at : ℕ) → at % 8 ≡ 0 → at + 8 * length ys ≤ 8 * length xs
+    → bits (paste xs (at / 8) ys (length ys)) ≡ paste (bits xs) at (bits ys) (8 * length ys)
+put_copied xs ys at e l =
+    let k = at / 8 in
+    let n = length ys in
+    let a : at ≡ 8 * k = omega arith in
+    let z : at + 8 * n ≡ 8 * (k + n) = omega arith in
+    ap bits (paste_all xs k ys n refl) ∙ bits_append (take k xs) (ys ++ drop (k + n) xs)
+    ∙ ap₂ (λ (u v : List Bool). u ++ v) (sym (ap (λ (m : ℕ). take m (bits xs)) a ∙ bits_take k xs (omega arith)))
+    (bits_append ys (drop (k + n) xs) ∙ ap (λ (u : List Bool). bits ys ++ u) (sym (ap (λ (m : ℕ). drop m (bits xs)) z ∙ bits_drop (k + n) xs)))
+    ∙ sym (paste_all (bits xs) at (bits ys) (8 * n) (sym (length_bits ys)))
+
+-- one more byte read across two
+pub get_across :
+    (xs : List ℕ) (at i r : ℕ) → at / 8 + i + 1 < length xs → r < 256
+    → word 8 r ≡ take 8 (drop (at % 8) (word 8 (get_or xs (at / 8 + i) 0) ++ word 8 (get_or xs (at / 8 + i + 1) 0)))
+    → r ≡ number (take 8 (drop (8 * i) (drop at (bits xs))))
+get_across xs at i r h lt e =
+    let k = at / 8 + i in
+    let s = at % 8 in
+    let a = word 8 (get_or xs k 0) in
+    let b = word 8 (get_or xs (k + 1) 0) in
+    let rest = bits (drop (k + 1 + 1) xs) in
+    let la = length_word 8 (get_or xs k 0) in
+    let lb = length_word 8 (get_or xs (k + 1) 0) in
+    let m : at + 8 * i ≡ 8 * k + s = omega arith in
+    let n : 8 * (k + 1) ≡ 8 * k + 8 = omega arith in
+    let two : drop (8 * k) (bits xs) ≡ a ++ b ++ rest =
+    bits_from xs k (omega arith) ∙ ap (λ (u : List Bool). a ++ u) (sym (bits_drop (k + 1) xs) ∙ bits_from xs (k + 1) h) ∙ sym (append_assoc a b rest) in
+    let d : drop (8 * i) (drop at (bits xs)) ≡ drop s (a ++ b) ++ rest =
+    drop-drop (8 * i) at (bits xs) ∙ ap (λ (q : ℕ). drop q (bits xs)) m ∙ sym (drop-drop s (8 * k) (bits xs)) ∙ ap (drop s) two
+    ∙ drop-append-le s (a ++ b) rest (omega (arith, length-append a b, la)) in
+    let t : take 8 (drop (8 * i) (drop at (bits xs))) ≡ word 8 r =
+    ap (take 8) d ∙ take-append-le 8 (drop s (a ++ b)) rest (omega (arith, length-drop s (a ++ b), length-append a b, la, lb)) ∙ sym e in
+    sym (ap number t ∙ number_back 8 r lt)
+
+-- ---- bytes written across two
+
+-- the byte across two has the rest of the first and the front of the second
+two_parts : (s : ℕ) (a b : List Bool) → length a ≡ 8 → length b ≡ 8 → s ≤ 8 → take 8 (drop s (a ++ b)) ≡ drop s a ++ take s b
+two_parts s a b la lb le =
+    let m : 8 ≡ length (drop s a) + s = omega (arith, length-drop s a) in
+    ap (take 8) (drop-append-le s a b (omega arith)) ∙ ap (λ (n : ℕ). take n (drop s a ++ b)) m ∙ take-append-add (drop s a) b s
+
+-- the bits up to a place within byte k
+bits_up_to : (xs : List ℕ) (k s : ℕ) → k < length xs → s ≤ 8 → take (8 * k + s) (bits xs) ≡ bits (take k xs) ++ take s (word 8 (get_or xs k 0))
+bits_up_to xs k s h le =
+    let w = word 8 (get_or xs k 0) in
+    take-add (8 * k) s (bits xs)
+    ∙ ap₂ (λ (u v : List Bool). u ++ v) (bits_take k xs (omega arith))
+    (ap (take s) (bits_from xs k h) ∙ take-append-le s w (bits (drop (k + 1) xs)) (omega (arith, length_word 8 (get_or xs k 0))))
+
+-- What is written after i of the bytes: byte at / 8 + i is not, and its first bits are the last ones of the byte `last`.
+abbrev pub Written : (old : List ℕ) (at : ℕ) (src : List ℕ) (now : List ℕ) (last i : ℕ) → Type 0
+Written old at src now last i =
+    (bits (take (at / 8 + i) now) ++ drop (8 - at % 8) (word 8 last) ≡ take at (bits old) ++ bits (take i src))
+    × (drop (at / 8 + i) now ≡ drop (at / 8 + i) old)
+
+written_none :
+    (old : List ℕ) (at : ℕ) (src : List ℕ) (last : ℕ) → at / 8 < length old
+    → word 8 last ≡ take 8 (drop (at % 8) (word 8 0 ++ word 8 (get_or old (at / 8) 0))) → Written old at src old last 0
+unfolding bits
+written_none old at src last h e =
+    let k = at / 8 in
+    let s = at % 8 in
+    let w = word 8 (get_or old k 0) in
+    let z = length_word 8 0 in
+    let d : drop (8 - s) (word 8 last) ≡ take s w =
+    ap (drop (8 - s)) (e ∙ two_parts s (word 8 0) w z (length_word 8 (get_or old k 0)) (omega arith))
+    ∙ drop_at (drop s (word 8 0)) (take s w) (8 - s) (omega (arith, length-drop s (word 8 0), z)) in
+    let m : 8 * k + s ≡ at = omega arith in
+    let q : k + 0 ≡ k = omega arith in (
+      ap₂ (λ (n : ℕ) (u : List Bool). bits (take n old) ++ u) q d ∙ sym (bits_up_to old k s h (omega arith))
+          ∙ ap (λ (n : ℕ). take n (bits old)) m ∙ sym (append-nil (take at (bits old))),
+      refl,
+    )
+
+pub written_more :
+    (old : List ℕ) (at : ℕ) (src now : List ℕ) (last i b y : ℕ) → i < length src → at / 8 + i < length now → b ≡ get_or src i 0
+    → word 8 y ≡ take 8 (drop (8 - at % 8) (word 8 last ++ word 8 b))
+    → Written old at src now last i → Written old at src (set now (at / 8 + i) y) b (i + 1)
+written_more old at src now last i b y hs hn eb e w =
+    let k = at / 8 + i in
+    let s = 8 - at % 8 in
+    let p = bits (take k now) in
+    let a = word 8 b in
+    let n : at / 8 + (i + 1) ≡ k + 1 = omega arith in
+    let ey : word 8 y ≡ drop s (word 8 last) ++ take s a = e ∙ two_parts s (word 8 last) a (length_word 8 last) (length_word 8 b) (omega arith) in
+    let one : bits (take (k + 1) (set now k y)) ≡ p ++ (drop s (word 8 last) ++ take s a) =
+    ap bits (take_more_set now k y hn) ∙ bits_append (take k now) (y ∷ []) ∙ ap (λ (u : List Bool). p ++ u) (bits_one y ∙ ey) in
+    let src' : bits (take (i + 1) src) ≡ bits (take i src) ++ a =
+    ap bits (take_more src i 0 hs ∙ ap (λ (x : ℕ). take i src ++ x ∷ []) (sym eb)) ∙ bits_append (take i src) (b ∷ [])
+    ∙ ap (λ (u : List Bool). bits (take i src) ++ u) (bits_one b) in
+    let step : (xs : List ℕ) → drop (k + 1) xs ≡ drop 1 (drop k xs) = λ xs. sym (drop-drop 1 k xs) in (
+      ap (λ (m : ℕ). bits (take m (set now k y)) ++ drop s a) n ∙ ap (λ (u : List Bool). u ++ drop s a) (one ∙ sym (append_assoc p (drop s (word 8 last)) (take s a)))
+          ∙ append_assoc (p ++ drop s (word 8 last)) (take s a) (drop s a)
+          ∙ ap₂ (λ (u v : List Bool). u ++ v) w.0 (take-append-drop s a)
+          ∙ append_assoc (take at (bits old)) (bits (take i src)) a ∙ ap (λ (u : List Bool). take at (bits old) ++ u) (sym src'),
+      rw n (drop-set-lt (k + 1) now k y (omega arith) ∙ step now ∙ ap (drop 1) w.1 ∙ sym (step old)),
+    )
+
+-- the first byte is written
+pub written_first :
+    (old : List ℕ) (at : ℕ) (src : List ℕ) (before y : ℕ) → 0 < length src → at / 8 < length old
+    → word 8 before ≡ take 8 (drop (at % 8) (word 8 0 ++ word 8 (get_or old (at / 8) 0)))
+    → word 8 y ≡ take 8 (drop (8 - at % 8) (word 8 before ++ word 8 (get_or src 0 0)))
+    → Written old at src (set old (at / 8) y) (get_or src 0 0) 1
+written_first old at src before y hs ho eb ey =
+    let k : at / 8 + 0 ≡ at / 8 = omega arith in
+    subst (λ (m : ℕ). Written old at src (set old m y) (get_or src 0 0) 1) k
+    (written_more old at src old before 0 (get_or src 0 0) y hs (omega arith) refl ey (written_none old at src before ho eb))
+
+pub written_all :
+    (old : List ℕ) (at : ℕ) (src now : List ℕ) (last rest z : ℕ) → at / 8 + length src < length now
+    → word 8 rest ≡ take 8 (drop (at % 8) (word 8 (get_or now (at / 8 + length src) 0) ++ word 8 0))
+    → word 8 z ≡ take 8 (drop (8 - at % 8) (word 8 last ++ word 8 rest))
+    → Written old at src now last (length src) → bits (set now (at / 8 + length src) z) ≡ paste (bits old) at (bits src) (8 * length src)
+unfolding bits
+written_all old at src now last rest z h er ez w =
+    let n = length src in
+    let k = at / 8 + n in
+    let s = at % 8 in
+    let x = word 8 (get_or now k 0) in
+    let lx = length_word 8 (get_or now k 0) in
+    let tail = bits (drop (k + 1) now) in
+    let p = bits (take k now) in
+    let d = drop (8 - s) (word 8 last) in
+    let r : take (8 - s) (word 8 rest) ≡ drop s x =
+    ap (take (8 - s)) (er ∙ two_parts s x (word 8 0) lx (length_word 8 0) (omega arith))
+    ∙ take_at (drop s x) (take s (word 8 0)) (8 - s) (omega (arith, length-drop s x, lx)) in
+    let ez' : word 8 z ≡ d ++ drop s x =
+    ez ∙ two_parts (8 - s) (word 8 last) (word 8 rest) (length_word 8 last) (length_word 8 rest) (omega arith) ∙ ap (λ (u : List Bool). d ++ u) r in
+    let m : 8 * k + s ≡ at + 8 * n = omega arith in
+    let back : drop s x ++ tail ≡ drop (at + 8 * n) (bits old) =
+    sym (drop-append-le s x tail (omega (arith, lx))) ∙ ap (drop s) (sym (bits_from now k h) ∙ bits_drop k now ∙ ap bits w.1 ∙ sym (bits_drop k old))
+    ∙ drop-drop s (8 * k) (bits old) ∙ ap (λ (q : ℕ). drop q (bits old)) m in
+    let all : take n src ≡ src = take_all n src (omega arith) in
+    let on : suc k ≡ k + 1 = omega arith in
+    let cut : set now k z ≡ take k now ++ z ∷ drop (k + 1) now = set_split now k z h ∙ ap (λ (q : ℕ). take k now ++ z ∷ drop q now) on in
+    ap bits cut ∙ bits_append (take k now) (z ∷ drop (k + 1) now) ∙ ap (λ (u : List Bool). p ++ (u ++ tail)) ez'
+    ∙ ap (λ (u : List Bool). p ++ u) (append_assoc d (drop s x) tail) ∙ sym (append_assoc p d (drop s x ++ tail))
+    ∙ ap₂ (λ (u v : List Bool). u ++ v) (w.0 ∙ ap (λ (u : List ℕ). take at (bits old) ++ bits u) all) back
+    ∙ append_assoc (take at (bits old)) (bits src) (drop (at + 8 * n) (bits old))
+    ∙ sym (paste_all (bits old) at (bits src) (8 * n) (sym (length_bits src)))
