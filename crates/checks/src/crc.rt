@@ -1,4 +1,4 @@
-// Cyclic redundancy checks, bit by bit.
+// Cyclic redundancy checks, by table.
 ghost use Rattle.std.specs.Prelude.{◌≡◌, ℕ, ◌%◌, ◌^◌, ◌<◌, ◌≤◌, Bool, ◌⊎◌, List, take, refl};
 ghost use Rattle.std.proofs.Common.{lit<, rules};
 ghost use Rattle.checks.specs.Bits.{word, bits};
@@ -13,8 +13,6 @@ pub trait Parameters {
 
     const WIDTH: usize;
 
-    const POLYNOMIAL: u16;
-
     const START: u16;
 
     ghost WIDTH: { ℕ };
@@ -24,6 +22,10 @@ pub trait Parameters {
     ghost START: { ℕ };
 
     ghost number: { List Bool → ℕ };
+
+    // What a byte makes of the register 0.
+    fn entry(byte: u8) -> u16
+        ensures { result ≡ run WIDTH POLYNOMIAL 0 (word 8 byte) };
 
     // The register's number as the check's word.
     fn word(register: u16) -> Self::Word
@@ -41,45 +43,31 @@ pub trait Parameters {
     ghost begun: { START < 2 ^ WIDTH };
 }
 
-// What one bit makes of the register.
-fn step<P: Parameters>(register: u16, bit: bool) -> u16
-    ensures { result ≡ step P.WIDTH P.POLYNOMIAL register bit }
-{
-    let shifted = register << 1 & u16::MAX >> (16 - P::WIDTH);
-    if (register >> (P::WIDTH - 1) & 1 == 1) ^ bit {
-        shifted ^ P::POLYNOMIAL
-    } else {
-        shifted
-    }
-}
-
-// What the first bits of a byte make of the register.
+// What the first bits of a byte make of the register: they meet its top bits in the table, and the others move up.
 fn steps<P: Parameters>(register: u16, byte: u8, count: usize) -> u16
-    requires { count ≤ 8 }
+    requires below { register < 2 ^ P.WIDTH }
+    requires within { count ≤ 8 }
     ensures { result ≡ run P.WIDTH P.POLYNOMIAL register (take count (word 8 byte)) }
 {
-    (0..count).fold(register, |register, k| {
-        step::<P>(register, byte >> (7 - k) & 1 == 1)
-    })
+    let moved = u32::from(register) << count;
+    let met = moved >> P::WIDTH ^ u32::from(byte) >> (8 - count);
+    let kept = moved & u32::MAX >> (32 - P::WIDTH);
+    P::entry(met as u8) ^ kept as u16
 }
 
-// The register after the first n bits, after all if there are fewer. Slices have no iterator over bits, so the bytes are
-// gone through, and of each the places of its bits; the count `left` ends it where the bits asked for end. Bit by bit with
-// `bit_at` it was slower: 176 to 201 ms against 161 to 168 for 300 000 checks of 321 bits.
+// The register after the first n bits, after all if there are fewer.
 fn remainder<P: Parameters>(bytes: &[u8], n: usize) -> u16
     ensures { result ≡ run P.WIDTH P.POLYNOMIAL P.START (take n (bits bytes.now)) }
 {
+    let (whole, rest) = bytes.split_at(bytes.len().min(n / 8));
     let mut register = P::START;
-    let mut left = n;
-    for byte in bytes {
-        if left == 0 {
-            break;
-        }
-        let count = left.min(8);
-        register = steps::<P>(register, *byte, count);
-        left -= count;
+    for byte in whole {
+        register = steps::<P>(register, *byte, 8);
     }
-    register
+    match rest.first() {
+        Some(byte) => steps::<P>(register, *byte, n % 8),
+        None => register,
+    }
 }
 
 impl<P: Parameters> Check for P {
@@ -102,6 +90,19 @@ impl<P: Parameters> Check for P {
     }
 }
 
+// The 256 exclusive ors of some of eight numbers, at the place whose bits say which, the first number at bit 0.
+macro_rules! sums {
+    ([$($sum:expr),*]) => { [$($sum),*] };
+    ([$($sum:expr),*] $next:literal $($rest:literal)*) => {
+        sums!([$($sum,)* $($sum ^ $next),*] $($rest)*)
+    };
+}
+
+// What each byte makes of the register 0: a byte's bits do so independently.
+const TABLE_8: [u16; 256] = sums!([0] 0x07 0x0E 0x1C 0x38 0x70 0xE0 0xC7 0x89);
+
+const TABLE_16: [u16; 256] = sums!([0] 0x1021 0x2042 0x4084 0x8108 0x1231 0x2462 0x48C4 0x9188);
+
 // Polynomial 07 from FF.
 pub struct Crc8;
 
@@ -109,8 +110,6 @@ impl Parameters for Crc8 {
     type Word = u8;
 
     const WIDTH: usize = 8;
-
-    const POLYNOMIAL: u16 = 0x07;
 
     const START: u16 = 0xFF;
 
@@ -132,6 +131,10 @@ impl Parameters for Crc8 {
 
     ghost begun = { lit< tt };
 
+    fn entry(byte: u8) -> u16 {
+        TABLE_8[usize::from(byte)]
+    }
+
     fn word(register: u16) -> u8 {
         register as u8
     }
@@ -144,8 +147,6 @@ impl Parameters for Crc16 {
     type Word = u16;
 
     const WIDTH: usize = 16;
-
-    const POLYNOMIAL: u16 = 0x1021;
 
     const START: u16 = 0xFFFF;
 
@@ -166,6 +167,10 @@ impl Parameters for Crc16 {
     ghost small = { lit< tt };
 
     ghost begun = { lit< tt };
+
+    fn entry(byte: u8) -> u16 {
+        TABLE_16[usize::from(byte)]
+    }
 
     fn word(register: u16) -> u16 {
         register
