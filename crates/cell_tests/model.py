@@ -244,6 +244,12 @@ class Boxed:
         self.pid = 0
         self.outgoing, self.received = [], []
         self.memories = [None] * 6
+        self.count()
+
+    def count(self):
+        """Begins to count for the summary"""
+        self.written = self.sent = self.given_up = self.flushed = 0
+        self.read_on = [0] * 6
 
     def fits(self):
         """Whether the unit is in a state that boxing without a fault gives (CELL.md)."""
@@ -308,9 +314,12 @@ class Boxed:
                 raise Refused(10)
             self.pid = (self.pid + 1) % 4
             self.outgoing.append((self.pid, rest))
+            self.written += 1
         elif first == R_RX_PAYLOAD:
-            del self.received[0]
+            pipe, _ = self.received.pop(0)
+            self.read_on[pipe] += 1
         elif first == FLUSH_TX:
+            self.flushed += len(self.outgoing)
             self.outgoing.clear()
             if self.mode in ('Tuning', 'Waiting'):
                 self.settle()
@@ -389,6 +398,7 @@ class Boxed:
             return self.send()
         else:
             self.flags |= MAX_RT
+            self.given_up += 1
             self.plos_cnt = min(15, self.plos_cnt + 1)
             self.settle()
         return ''
@@ -405,6 +415,7 @@ class Boxed:
             return self.receives(*said) if self.mode == 'RX' else ''
         if self.mode == 'Waiting' and said[0] == self.registers.address(0) and said[3] == b'':
             del self.outgoing[0]
+            self.sent += 1
             self.flags |= TX_DS
             if self.ce and self.outgoing:
                 self.transaction()
@@ -462,6 +473,13 @@ class Cell:
         self.units = units
         # the frame's bits and the number of its sender
         self.air = None
+        for unit in units:
+            unit.count()
+
+    def summary(self):
+        """Of each sender how many payloads were written, sent, given up and flushed, and how many wait; the reads on each pipe."""
+        counts = [[unit.written, unit.sent, unit.given_up, unit.flushed, len(unit.outgoing)] for unit in self.units[1:]]
+        return counts, self.units[0].read_on
 
     def unit(self, number):
         if number >= len(self.units):
