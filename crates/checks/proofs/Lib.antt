@@ -1,2 +1,4 @@
+mod Bytes
 mod Linear
 mod Table
+mod Words

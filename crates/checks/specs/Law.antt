@@ -205,7 +205,7 @@ module _ (v p : ℕ) (odd : p % 2 ≡ 1) (small : p < 2 ^ suc v) where
 
   -- ---- the register's own bits bring it to 0
 
-  pub own : (k j c : ℕ) → k + j ≡ suc v → run (suc v) p (c * 2 ^ j % 2 ^ suc v) (word k c) ≡ 0
+  own : (k j c : ℕ) → k + j ≡ suc v → run (suc v) p (c * 2 ^ j % 2 ^ suc v) (word k c) ≡ 0
   unfolding word
   own zero j c e =
       let q : j ≡ suc v = omega (arith, e) in

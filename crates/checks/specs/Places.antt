@@ -75,7 +75,7 @@ pub run_more :
 run_more w p r s i h = ap (run w p r) (take_more s i false h) ∙ run_append w p r (take i s) (slice_index_or s i false ∷ [])
 
 -- the first bits, up to a place within byte i
-bits_more :
+pub bits_more :
     (bs : List ℕ) (i count : ℕ) → i < length bs → count ≤ 8
     → take (8 * i + count) (bits bs) ≡ take (8 * i) (bits bs) ++ take count (word 8 (slice_index bs i))
 unfolding bits

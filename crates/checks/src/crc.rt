@@ -1,5 +1,5 @@
 // Cyclic redundancy checks, by table.
-ghost use Rattle.std.specs.Prelude.{◌≡◌, ℕ, ◌%◌, ◌^◌, ◌<◌, ◌≤◌, Bool, ◌⊎◌, List, take, refl};
+ghost use Rattle.std.specs.Prelude.{◌≡◌, ℕ, ◌%◌, ◌^◌, ◌<◌, ◌≤◌, ◌+◌, ◌*◌, Bool, ◌⊎◌, List, length, take, refl};
 ghost use Rattle.std.proofs.Common.{lit<, rules};
 ghost use Rattle.checks.specs.Bits.{word, bits};
 ghost use Rattle.checks.specs.Crc.{step, run, crc8, crc16};
@@ -23,9 +23,10 @@ pub trait Parameters {
 
     ghost number: { List Bool → ℕ };
 
-    // What a byte makes of the register 0.
-    fn entry(byte: u8) -> u16
-        ensures { result ≡ run WIDTH POLYNOMIAL 0 (word 8 byte) };
+    // What a byte with so many bytes 0 behind it makes of the register 0.
+    fn entry(byte: u8, behind: usize) -> u16
+        requires { behind < 8 }
+        ensures { result ≡ run WIDTH POLYNOMIAL 0 (word (8 * (behind + 1)) (byte * 2 ^ (8 * behind))) };
 
     // The register's number as the check's word.
     fn word(register: u16) -> Self::Word
@@ -43,30 +44,62 @@ pub trait Parameters {
     ghost begun: { START < 2 ^ WIDTH };
 }
 
-// What the first bits of a byte make of the register: they meet its top bits in the table, and the others move up.
-fn steps<P: Parameters>(register: u16, byte: u8, count: usize) -> u16
-    requires below { register < 2 ^ P.WIDTH }
-    requires within { count ≤ 8 }
-    ensures { result ≡ run P.WIDTH P.POLYNOMIAL register (take count (word 8 byte)) }
+// A byte string of at most 8 bytes as one number.
+fn big_endian(bytes: &[u8]) -> u64
+    requires { length bytes.now ≤ 8 }
+    ensures same { word (8 * length bytes.now) result ≡ bits bytes.now }
+    ensures below { result < 2 ^ (8 * length bytes.now) }
 {
-    let moved = u32::from(register) << count;
-    let met = moved >> P::WIDTH ^ u32::from(byte) >> (8 - count);
-    let kept = moved & u32::MAX >> (32 - P::WIDTH);
-    P::entry(met as u8) ^ kept as u16
+    let mut number = 0;
+    for byte in bytes {
+        number = number << 8 | u64::from(*byte);
+    }
+    number
+}
+
+// What 64 bits make of the register 0.
+fn from_none<P: Parameters>(number: u64) -> u16
+    ensures { result ≡ run P.WIDTH P.POLYNOMIAL 0 (word 64 number) }
+{
+    let mut register = 0;
+    for behind in 0..8 {
+        register ^= P::entry((number >> (8 * behind) & 0xFF) as u8, behind);
+    }
+    register
+}
+
+// What the low bits of a number make of the register: its top bits are combined with them, the others move up.
+fn steps<P: Parameters>(register: u16, number: u64, count: usize) -> u16
+    requires below { register < 2 ^ P.WIDTH }
+    requires fits { number < 2 ^ count }
+    requires within { count ≤ 64 }
+    ensures { result ≡ run P.WIDTH P.POLYNOMIAL register (word count number) }
+{
+    let moved = u128::from(register) << count;
+    let met = (moved >> P::WIDTH) as u64 ^ number;
+    let kept = moved & u128::MAX >> (128 - P::WIDTH);
+    from_none::<P>(met) ^ kept as u16
 }
 
 // The register after the first n bits, after all if there are fewer.
 fn remainder<P: Parameters>(bytes: &[u8], n: usize) -> u16
     ensures { result ≡ run P.WIDTH P.POLYNOMIAL P.START (take n (bits bytes.now)) }
 {
-    let (whole, rest) = bytes.split_at(bytes.len().min(n / 8));
+    let whole = bytes.len().min(n / 8);
+    let (eights, rest) = bytes[..whole].as_chunks::<8>();
     let mut register = P::START;
-    for byte in whole {
-        register = steps::<P>(register, *byte, 8);
+    for eight in eights {
+        register = steps::<P>(register, big_endian(eight), 64);
     }
-    match rest.first() {
-        Some(byte) => steps::<P>(register, *byte, n % 8),
-        None => register,
+    let number = big_endian(rest);
+    let count = 8 * rest.len();
+    match bytes.get(whole) {
+        Some(byte) => {
+            let spare = n % 8;
+            let first = u64::from(*byte) >> (8 - spare);
+            steps::<P>(register, number << spare | first, count + spare)
+        }
+        None => steps::<P>(register, number, count),
     }
 }
 
@@ -98,10 +131,28 @@ macro_rules! sums {
     };
 }
 
-// What each byte makes of the register 0: a byte's bits do so independently.
-const TABLE_8: [u16; 256] = sums!([0] 0x07 0x0E 0x1C 0x38 0x70 0xE0 0xC7 0x89);
+// What each byte makes of the register 0, with 0 to 7 bytes 0 behind it. The bits of a byte do so independently.
+static TABLES_8: [[u16; 256]; 8] = [
+    sums!([0] 0x07 0x0E 0x1C 0x38 0x70 0xE0 0xC7 0x89),
+    sums!([0] 0x15 0x2A 0x54 0xA8 0x57 0xAE 0x5B 0xB6),
+    sums!([0] 0x6B 0xD6 0xAB 0x51 0xA2 0x43 0x86 0x0B),
+    sums!([0] 0x16 0x2C 0x58 0xB0 0x67 0xCE 0x9B 0x31),
+    sums!([0] 0x62 0xC4 0x8F 0x19 0x32 0x64 0xC8 0x97),
+    sums!([0] 0x29 0x52 0xA4 0x4F 0x9E 0x3B 0x76 0xEC),
+    sums!([0] 0xDF 0xB9 0x75 0xEA 0xD3 0xA1 0x45 0x8A),
+    sums!([0] 0x13 0x26 0x4C 0x98 0x37 0x6E 0xDC 0xBF),
+];
 
-const TABLE_16: [u16; 256] = sums!([0] 0x1021 0x2042 0x4084 0x8108 0x1231 0x2462 0x48C4 0x9188);
+static TABLES_16: [[u16; 256]; 8] = [
+    sums!([0] 0x1021 0x2042 0x4084 0x8108 0x1231 0x2462 0x48C4 0x9188),
+    sums!([0] 0x3331 0x6662 0xCCC4 0x89A9 0x0373 0x06E6 0x0DCC 0x1B98),
+    sums!([0] 0x3730 0x6E60 0xDCC0 0xA9A1 0x4363 0x86C6 0x1DAD 0x3B5A),
+    sums!([0] 0x76B4 0xED68 0xCAF1 0x85C3 0x1BA7 0x374E 0x6E9C 0xDD38),
+    sums!([0] 0xAA51 0x4483 0x8906 0x022D 0x045A 0x08B4 0x1168 0x22D0),
+    sums!([0] 0x45A0 0x8B40 0x06A1 0x0D42 0x1A84 0x3508 0x6A10 0xD420),
+    sums!([0] 0xB861 0x60E3 0xC1C6 0x93AD 0x377B 0x6EF6 0xDDEC 0xABF9),
+    sums!([0] 0x47D3 0x8FA6 0x0F6D 0x1EDA 0x3DB4 0x7B68 0xF6D0 0xFD81),
+];
 
 // Polynomial 07 from FF.
 pub struct Crc8;
@@ -131,8 +182,8 @@ impl Parameters for Crc8 {
 
     ghost begun = { lit< tt };
 
-    fn entry(byte: u8) -> u16 {
-        TABLE_8[usize::from(byte)]
+    fn entry(byte: u8, behind: usize) -> u16 {
+        TABLES_8[behind][usize::from(byte)]
     }
 
     fn word(register: u16) -> u8 {
@@ -168,8 +219,8 @@ impl Parameters for Crc16 {
 
     ghost begun = { lit< tt };
 
-    fn entry(byte: u8) -> u16 {
-        TABLE_16[usize::from(byte)]
+    fn entry(byte: u8, behind: usize) -> u16 {
+        TABLES_16[behind][usize::from(byte)]
     }
 
     fn word(register: u16) -> u16 {
