@@ -273,7 +273,7 @@ Written old at src now last i =
     (bits (take (at / 8 + i) now) ++ drop (8 - at % 8) (word 8 last) ≡ take at (bits old) ++ bits (take i src))
     × (drop (at / 8 + i) now ≡ drop (at / 8 + i) old)
 
-written_none :
+pub written_none :
     (old : List ℕ) (at : ℕ) (src : List ℕ) (last : ℕ) → at / 8 < length old
     → word 8 last ≡ take 8 (drop (at % 8) (word 8 0 ++ word 8 (get_or old (at / 8) 0))) → Written old at src old last 0
 unfolding bits
@@ -315,17 +315,6 @@ written_more old at src now last i b y hs hn eb e w =
           ∙ append_assoc (take at (bits old)) (bits (take i src)) a ∙ ap (λ (u : List Bool). take at (bits old) ++ u) (sym src'),
       rw n (drop-set-lt (k + 1) now k y (omega arith) ∙ step now ∙ ap (drop 1) w.1 ∙ sym (step old)),
     )
-
--- the first byte is written
-pub written_first :
-    (old : List ℕ) (at : ℕ) (src : List ℕ) (before y : ℕ) → 0 < length src → at / 8 < length old
-    → word 8 before ≡ take 8 (drop (at % 8) (word 8 0 ++ word 8 (get_or old (at / 8) 0)))
-    → word 8 y ≡ take 8 (drop (8 - at % 8) (word 8 before ++ word 8 (get_or src 0 0)))
-    → Written old at src (set old (at / 8) y) (get_or src 0 0) 1
-written_first old at src before y hs ho eb ey =
-    let k : at / 8 + 0 ≡ at / 8 = omega arith in
-    subst (λ (m : ℕ). Written old at src (set old m y) (get_or src 0 0) 1) k
-    (written_more old at src old before 0 (get_or src 0 0) y hs (omega arith) refl ey (written_none old at src before ho eb))
 
 pub written_all :
     (old : List ℕ) (at : ℕ) (src now : List ℕ) (last rest z : ℕ) → at / 8 + length src < length now

@@ -38,6 +38,7 @@ fn put_within(buf: &mut [u8], at: usize, value: u16, count: usize)
 
 // The low bits of a number are written from a place on, most significant first; the others stay. They fill the first byte
 // from the place on, and then up to two more.
+#[inline(always)]
 pub(crate) fn put_bits(buf: &mut [u8], at: usize, value: u16, count: usize)
     requires { HasBits buf.old at count × (count ≤ 16) }
     ensures { bits buf.new ≡ paste (bits buf.old) at (word count value) count }
@@ -73,6 +74,7 @@ fn get_within(buf: &[u8], at: usize, count: usize) -> u16
 }
 
 // The number that the bits from a place on write, most significant first.
+#[inline(always)]
 pub(crate) fn get_bits(buf: &[u8], at: usize, count: usize) -> u16
     requires { HasBits buf.now at count × (count ≤ 16) }
     ensures value { result ≡ number (take count (drop at (bits buf.now))) }
@@ -110,23 +112,19 @@ pub(crate) fn put_octets(buf: &mut [u8], at: usize, src: &[u8])
 {
     let start = at / 8;
     let place = at % 8;
-    let bytes = src.len();
     if place == 0 {
-        buf[start..start + bytes].copy_from_slice(src);
-        return;
-    }
-    if bytes == 0 {
+        buf[start..start + src.len()].copy_from_slice(src);
         return;
     }
     // ends with the bits before the place
-    let before = across(0, buf[start], place);
-    buf[start] = across(before, src[0], 8 - place);
-    for i in 1..bytes {
-        buf[start + i] = across(src[i - 1], src[i], 8 - place);
+    let mut last = across(0, buf[start], place);
+    for (i, b) in src.iter().enumerate() {
+        buf[start + i] = across(last, *b, 8 - place);
+        last = *b;
     }
-    // begins with the bits behind
-    let behind = across(buf[start + bytes], 0, place);
-    buf[start + bytes] = across(src[bytes - 1], behind, 8 - place);
+    let end = start + src.len();
+    let rest = across(buf[end], 0, place);
+    buf[end] = across(last, rest, 8 - place);
 }
 
 // Bytes are filled by the bits from a place on.

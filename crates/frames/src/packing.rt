@@ -23,8 +23,8 @@ fn put_covered(fields: &Fields, frame: &mut [u8]) -> usize
     let layout = Layout::of(fields);
     let control = layout.wide.control();
     let mut address = [0; 5];
+    address.copy_from_slice(&fields.address.held);
     let high_first = &mut address[0..layout.wide.bytes()];
-    high_first.copy_from_slice(fields.address.bytes());
     high_first.reverse();
     let preamble = if bit_at(high_first, 0) { 0xAA } else { 0x55 };
     put_bits(frame, 0, preamble, 8);

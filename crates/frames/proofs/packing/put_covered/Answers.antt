@@ -1,4 +1,4 @@
-use Rattle.std.proofs.Common.{◌≡◌, ℕ, ◌+◌, ◌*◌, Bool, cond, ◌++◌, reverse, length, sym, ap, ◌∙◌, ap₂, arith, rules}
+use Rattle.std.proofs.Common.{◌≡◌, ℕ, ◌+◌, ◌-◌, ◌*◌, Bool, cond, List, ◌++◌, take, reverse, length, sym, ap, ◌∙◌, ap₂, arith, rules}
 use lib.Seq.{paste}
 use Rattle.std.proofs.lemmas.List.{length-reverse}
 use Rattle.checks.specs.Bits.{word, bits}
@@ -15,9 +15,10 @@ returns c =
     let width = width_of f.address.wide in
     let len = f.payload.len in
     let hs = c.reverse.new.self in
-    let eh : hs ≡ reverse s.address = c.reverse.ensures.after ∙ ap reverse (c.copy_from_slice.ensures.after ∙ c.bytes-2.ensures) in
-    let ps = c.bytes-3.result.now in
-    let ep = c.bytes-3.ensures.value in
+    let w : c.bytes.result - 0 ≡ width = omega (arith, c.bytes.ensures.value, ap width_of c.of-layout.ensures.wide) in
+    let eh : hs ≡ reverse s.address = c.reverse.ensures.after ∙ ap reverse (ap₂ (λ (n : ℕ) (xs : List ℕ). take n xs) w c.copy_from_slice.ensures.after) in
+    let ps = c.bytes-2.result.now in
+    let ep = c.bytes-2.ensures.value in
     let lh : length hs ≡ width = search rules in
     let lp : length ps ≡ len = search rules in
     let la : length s.address ≡ width = omega (arith, length-reverse s.address, ap length eh) in
