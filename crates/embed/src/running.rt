@@ -1,0 +1,41 @@
+// The console over a whole script.
+ghost use Rattle.std.specs.Prelude.{◌≡◌};
+ghost use Rattle.embed.specs.Running.{front_written};
+
+use script::Console;
+use std::alloc::{AllocError, Global};
+
+// What a new console prints of the script's lines.
+fn results(heap: Global, script: &[u8]) -> Result<Vec<u8>, AllocError>
+    //ensures { IfOk result (λ text. text.items ≡ results script.now) }
+{
+    let mut console = Console::new();
+    let mut text = Vec::new(heap);
+    for line in script.split_inclusive(|byte| *byte == b'\n') {
+        console.take(heap, line, &mut text)?;
+    }
+    Ok(text)
+}
+
+fn write_front(text: &[u8], out: &mut [u8])
+    ensures { out.new ≡ front_written text.now out.old }
+{
+    let count = text.len().min(out.len());
+    out[0..count].copy_from_slice(&text[0..count]);
+}
+
+// Runs a script on a new console, and answers how many bytes its results have. As many of them as fit stand at the front of
+// `out`; later bytes stay. Where there was no memory the answer is the greatest number, and `out` stays.
+#[unsafe(no_mangle)]
+pub extern "C" fn sinkapricot_run(heap: Global, script: &[u8], out: &mut [u8]) -> usize
+    //ensures ran { result ≢ no_memory → (result ≡ length (results script.now)) × (out.new ≡ front_written (results script.now) out.old) }
+    //ensures memory { result ≡ no_memory → out.new ≡ out.old }
+{
+    match results(heap, script) {
+        Ok(text) => {
+            write_front(&text, out);
+            text.len()
+        }
+        Err(_) => usize::MAX,
+    }
+}
