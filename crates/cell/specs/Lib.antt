@@ -1,4 +1,6 @@
 pub mod Refusals
+pub mod Texts
 pub mod Air
-pub mod Making
 pub mod Calls
+pub mod Making
+pub mod Pins

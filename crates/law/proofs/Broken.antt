@@ -11,12 +11,12 @@ use Rattle.commands.specs.Decode.{ordered}
 use Rattle.unit.specs.declared.state.State.{State}
 use Rattle.unit.specs.Boxing.{boxed}
 use Rattle.cell.specs.Air.{inside}
-use Rattle.cell.specs.Making.{unit_at_fault, sender_at_fault}
+use Rattle.cell.specs.Making.{unit_at_fault, sender_at_fault, OfBytesInside}
 use Rattle.cell.specs.Calls.{heard_from}
 use Rattle.law.specs.Lists.{All}
 use Rattle.law.specs.Runs.{Call, command, ce, tick, carry}
 use Rattle.law.specs.Law.{Payload, Answering, Counting, Read, Exchange, Writes, bytes_of, latest, history_from, history}
-use Rattle.law.specs.Law.{ReadsAWrite, InOrder, Mistaken, Accounted, OverBudget, OfBytes, OfBytesInside, check_of}
+use Rattle.law.specs.Law.{ReadsAWrite, InOrder, Mistaken, Accounted, OverBudget, OfBytes, check_of}
 use Rattle.law.specs.Weakened.{of_receiver, of_sender, pair, frame_changed, answer_lost, answer_heard, identity_again, frames_lost, RunsOfTheLaw, SaidByTheLaw, blind, forgetting, keeping_none, counting_from_1, weakened_history, BlindReads, ForgettingReads, KeepingNoneAnswers, BlindAnswers, CountingFrom1GivesUp}
 
 -- ---- the law speaks of the runs

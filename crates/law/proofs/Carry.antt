@@ -28,12 +28,12 @@ use Rattle.cell.specs.declared.parts.Inside.{Inside}
 use Rattle.cell.specs.declared.refusal.Cause.TheVariants.{FateNotAllowed}
 use Rattle.cell.specs.Refusals.{refusal_of}
 use Rattle.cell.specs.Air.{frame_of, air_of, fate_of, fate_allowed}
-use Rattle.cell.specs.Making.{pipe_for, same_pipe}
+use Rattle.cell.specs.Making.{pipe_for, same_pipe, OfBytesInside}
 use Rattle.cell.specs.Calls.{unit_at, with_unit, with_air, carry_result_by, carried_so, carried_if, carried_by, carried}
 use Rattle.law.specs.Lists.{SomeOf, In}
 use Rattle.law.specs.Runs.{carry, answer_of, outcome}
 use Rattle.law.specs.Law.{Payload, History, at, oldest, rx_length, tx_length, spoils, ready, ready_by, pipe_of_sender, touched, touching, taking, answering, shrank, note_counting, note_frame, note_aired, note_fate, note}
-use Rattle.law.specs.Law.{Mistaken, OfBytesInside}
+use Rattle.law.specs.Law.{Mistaken}
 use Rattle.law.proofs.Terms.{Fits, Like, hears_packet, each_hears, answer_to, hearing}
 use Rattle.law.proofs.Facts.{at_there, at_elsewhere, nth_all}
 use Rattle.law.proofs.Inv.{Sendable, SenderOk, last_number, Pending, Settled, acknowledging, packet_with, OnAir, AirOk, Inv}

@@ -32,9 +32,8 @@ use Rattle.unit.specs.Units.{tx_address}
 use Rattle.unit.specs.Hearing.{address_width}
 use Rattle.unit.specs.Boxing.{boxed}
 use Rattle.cell.specs.declared.parts.Inside.{Inside}
-use Rattle.cell.specs.Making.{is_shutdown, nothing_in, no_flag, as_boxed, tuned_alike, pipe_for, same_pipe, pipe_taken, receiver_fits, sender_fits, sender_at_fault, senders_at_fault, unit_at_fault, made, NewlyMade}
+use Rattle.cell.specs.Making.{is_shutdown, nothing_in, no_flag, as_boxed, tuned_alike, pipe_for, same_pipe, pipe_taken, receiver_fits, sender_fits, sender_at_fault, senders_at_fault, unit_at_fault, made, NewlyMade, OfBytesInside}
 use Rattle.cell.specs.Calls.{unit_at}
-use Rattle.law.specs.Law.{OfBytesInside}
 use Rattle.law.proofs.Terms.{Fits}
 
 -- ---- a unit that is as boxed

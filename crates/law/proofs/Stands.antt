@@ -10,11 +10,12 @@ use Rattle.unit.specs.Units.{retry_of}
 use Rattle.unit.specs.Hearing.{recalled}
 use Rattle.unit.specs.Boxing.{boxed, no_memories}
 use Rattle.cell.specs.declared.parts.Inside.{Inside}
+use Rattle.cell.specs.Making.{OfBytesInside}
 use Rattle.cell.specs.Calls.{unit_at, command_answer_by, commanded_by, reply_by, ce_result_by, leveled_by, tick_result_by, ticked_by}
 use Rattle.law.specs.Lists.{All}
 use Rattle.law.specs.Runs.{Call, command, ce, tick, carry, reply_of, answer_of, outcome, after}
 use Rattle.law.specs.Law.{History, nothing_yet, note, history_from}
-use Rattle.law.specs.Law.{Lawful, OfBytes, OfBytesInside, EveryRunIsLawful}
+use Rattle.law.specs.Law.{Lawful, OfBytes, EveryRunIsLawful}
 use Rattle.law.proofs.Terms.{Fits, Like}
 use Rattle.law.proofs.Fits.{fits}
 use Rattle.law.proofs.Inv.{pid_at, numbered, trying, SenderOk, TriesOk, Pending, EntriesOk, last_number, AirOk, Inv}

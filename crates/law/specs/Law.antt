@@ -16,7 +16,7 @@ use Rattle.cell.specs.declared.air.Fate.{Fate}
 use Rattle.cell.specs.declared.air.Fate.TheVariants.{Lost, Heard, HeardTwice, Changed}
 use Rattle.cell.specs.declared.parts.Inside.{Inside}
 use Rattle.cell.specs.Air.{fate_of}
-use Rattle.cell.specs.Making.{pipe_for, same_pipe, NewlyMade}
+use Rattle.cell.specs.Making.{pipe_for, same_pipe, NewlyMade, OfBytesInside}
 use Rattle.cell.specs.Calls.{unit_at}
 use Rattle.law.specs.Runs.{Call, command, ce, tick, carry, Outcome, replied, done, refused, outcome, after}
 use Rattle.std.specs.Option.{option_map}
@@ -418,16 +418,12 @@ history w f c calls = history_from (outcome w f) (after w f) c nothing_yet calls
 
 -- ==== the law
 
--- bytes are below 256, as their type has it: the host's, and those of the addresses in use, which are as many as the width says
+-- bytes of the host are below 256, as their type has it
 abbrev pub OfBytes : Call → Type 0
 OfBytes (command u host room) = Bytes host
 OfBytes (ce u level) = Unit {0}
 OfBytes (tick u) = Unit {0}
 OfBytes (carry fate start pattern) = Unit {0}
-
-abbrev pub OfBytesInside : Inside → Type 0
-OfBytesInside c = (u : ℕ) (s : State) → unit_at c u ≡ Some s
-    → Bytes (tx_address s.registers) × (length (tx_address s.registers) ≡ address_width s) × (length s.memories.at ≡ 6)
 
 abbrev pub EveryRunIsLawful : ℕ → (List Bool → ℕ) → Type 0
 EveryRunIsLawful w f =

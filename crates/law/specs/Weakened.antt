@@ -11,12 +11,12 @@ use Rattle.unit.specs.declared.state.State.{State}
 use Rattle.unit.specs.Units.{retry_of, with_core, with_rx}
 use Rattle.unit.specs.Boxing.{boxed, no_memories}
 use Rattle.cell.specs.declared.parts.Inside.{Inside}
-use Rattle.cell.specs.Making.{NewlyMade, made}
+use Rattle.cell.specs.Making.{NewlyMade, OfBytesInside, made}
 use Rattle.cell.specs.Calls.{unit_at, with_unit}
 use Rattle.law.specs.Lists.{All}
 use Rattle.law.specs.Runs.{Call, command, ce, tick, carry, outcome, after}
 use Rattle.law.specs.Law.{History, nothing_yet, history_from, history}
-use Rattle.law.specs.Law.{ReadsAWrite, InOrder, Accounted, OverBudget, Lawful, OfBytes, OfBytesInside}
+use Rattle.law.specs.Law.{ReadsAWrite, InOrder, Accounted, OverBudget, Lawful, OfBytes}
 
 -- ---- a newly made cell of two units, with the check of 8 bits
 

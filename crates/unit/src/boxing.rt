@@ -51,11 +51,21 @@ impl<C: Check> Boxed<C> {
         }
     }
 
-    // Whether the IRQ pin is low. It can always be observed, also of a unit that was boxed with a fault.
+    // Whether the IRQ pin is low.
     pub fn irq_is_low(&self) -> bool
         ensures value { result ≡ irq_of self.now.state.core.flags self.now.state.core.config }
         ensures law { LowWhen self.now.state.core.flags self.now.state.core.config result }
     {
-        irq_low(self.state.core.flags, self.state.core.config)
+        self.state.irq_is_low()
+    }
+}
+
+impl State {
+    // Whether the IRQ pin is low. It can always be observed, also of a unit that was boxed with a fault.
+    pub fn irq_is_low(&self) -> bool
+        ensures value { result ≡ irq_of self.now.core.flags self.now.core.config }
+        ensures law { LowWhen self.now.core.flags self.now.core.config result }
+    {
+        irq_low(self.core.flags, self.core.config)
     }
 }

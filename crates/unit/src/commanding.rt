@@ -203,6 +203,16 @@ impl State {
             Command::Nop(_) => reply(buffer, self.live().status, &[]),
         }
     }
+
+    // Carries out a host command and answers the length of the reply.
+    pub fn command(&mut self, bytes: &[u8], buffer: &mut [u8]) -> Result<usize, Refusal>
+        ensures answer { result ≡ command_answer self.old (length buffer.old) (ordered bytes.now) }
+        ensures state { self.new ≡ command_after self.old (length buffer.old) (ordered bytes.now) }
+        ensures buffer { buffer.new ≡ command_buffer self.old buffer.old (ordered bytes.now) }
+    {
+        self.ensure_sound()?;
+        self.serve(decode(bytes)?, buffer)
+    }
 }
 
 impl<C: Check> Boxed<C> {
@@ -212,7 +222,6 @@ impl<C: Check> Boxed<C> {
         ensures state { self.new.state ≡ command_after self.old.state (length buffer.old) (ordered bytes.now) }
         ensures buffer { buffer.new ≡ command_buffer self.old.state buffer.old (ordered bytes.now) }
     {
-        self.state.ensure_sound()?;
-        self.state.serve(decode(bytes)?, buffer)
+        self.state.command(bytes, buffer)
     }
 }

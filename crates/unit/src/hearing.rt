@@ -99,7 +99,7 @@ impl State {
     }
 
     // A frame that was read. The answer is what is sent back.
-    fn hear(&mut self, heard: &Heard) -> Option<Fields>
+    fn take_in(&mut self, heard: &Heard) -> Option<Fields>
         ensures after { self.new ≡ (hears self.old (packet_of heard.now.fields) heard.now.check).state }
         ensures answer { option_map packet_of result ≡ (hears self.old (packet_of heard.now.fields) heard.now.check).answer }
     {
@@ -112,27 +112,42 @@ impl State {
             _ => None,
         }
     }
-}
 
-impl<C: Check> Boxed<C> {
-    // A frame reaches the unit: the first `count` bits of its bytes. The answer is the bit count of the frame that is sent
-    // back, 0 for none, as the radio's calls have it (docs/HEARING.md); it stands in the buffer.
+    // A frame with that kind of check reaches the unit: the first `count` bits of its bytes. The answer is the bit count of the
+    // frame that is sent back, 0 for none, as the radio's calls have it (docs/HEARING.md); it stands in the buffer.
     #[tactic(auto, unfolding(frames::specs::Octets::octets))]
-    pub fn hear(&mut self, frame: &[u8], count: usize, buffer: &mut [u8]) -> Result<usize, Refusal>
-        ensures answer { result ≡ hear_answer C.Check.W C.meaning self.old.state frame.now count (length buffer.old) }
-        ensures state { self.new.state ≡ hear_after C.Check.W C.meaning self.old.state frame.now count (length buffer.old) }
-        ensures buffer { buffer.new ≡ hear_buffer C.Check.W C.meaning self.old.state frame.now count buffer.old }
+    pub fn hear<C: Check>(
+        &mut self,
+        frame: &[u8],
+        count: usize,
+        buffer: &mut [u8],
+    ) -> Result<usize, Refusal>
+        ensures answer { result ≡ hear_answer C.Check.W C.meaning self.old frame.now count (length buffer.old) }
+        ensures state { self.new ≡ hear_after C.Check.W C.meaning self.old frame.now count (length buffer.old) }
+        ensures buffer { buffer.new ≡ hear_buffer C.Check.W C.meaning self.old frame.now count buffer.old }
     {
-        self.state.ensure_sound()?;
+        self.ensure_sound()?;
         ensure_frame_fits(buffer)?;
         // no `?` alone: neither refusal is a type of this crate, so it can write no From for them
-        let heard = frames::read::<C>(frame, count, self.state.address_width()).map_err(
+        let heard = frames::read::<C>(frame, count, self.address_width()).map_err(
             |_| Refusal::FrameBytes,
         )?;
         // no `map_or`: of the unit that its closure would change, nothing is known after it
         let Some(heard) = heard else {
             return Ok(0);
         };
-        Ok(put_frame::<C>(self.state.hear(&heard), buffer))
+        Ok(put_frame::<C>(self.take_in(&heard), buffer))
+    }
+}
+
+impl<C: Check> Boxed<C> {
+    // A frame reaches the unit: the first `count` bits of its bytes. The answer is the bit count of the frame that is sent
+    // back, 0 for none; it stands in the buffer.
+    pub fn hear(&mut self, frame: &[u8], count: usize, buffer: &mut [u8]) -> Result<usize, Refusal>
+        ensures answer { result ≡ hear_answer C.Check.W C.meaning self.old.state frame.now count (length buffer.old) }
+        ensures state { self.new.state ≡ hear_after C.Check.W C.meaning self.old.state frame.now count (length buffer.old) }
+        ensures buffer { buffer.new ≡ hear_buffer C.Check.W C.meaning self.old.state frame.now count buffer.old }
+    {
+        self.state.hear::<C>(frame, count, buffer)
     }
 }

@@ -24,8 +24,8 @@ impl State {
         })
     }
 
-    // One tick. The answer is what is sent.
-    fn tick(&mut self) -> Option<Fields>
+    // The unit goes on by one tick. The answer is what is sent.
+    fn advance(&mut self) -> Option<Fields>
         ensures after { self.new ≡ tick_state self.old }
         ensures answer { option_map packet_of result ≡ sent self.old }
     {
@@ -55,17 +55,39 @@ pub(crate) fn put_frame<C: Check>(fields: Option<Fields>, buffer: &mut [u8]) -> 
     frames::pack::<C>(&fields, buffer).unwrap()
 }
 
+impl State {
+    // One tick of 10 µs, for frames with that kind of check. The answer is the bit count of the frame that is sent, 0 for none,
+    // as the radio's calls have it (docs/MODES.md); it stands in the buffer.
+    pub fn tick<C: Check>(&mut self, buffer: &mut [u8]) -> Result<usize, Refusal>
+        ensures answer { result ≡ tick_answer C.Check.W C.meaning self.old (length buffer.old) }
+        ensures state { self.new ≡ tick_after self.old (length buffer.old) }
+        ensures buffer { buffer.new ≡ tick_buffer C.Check.W C.meaning self.old buffer.old }
+    {
+        self.ensure_sound()?;
+        ensure_frame_fits(buffer)?;
+        Ok(put_frame::<C>(self.advance(), buffer))
+    }
+
+    // Sets the level of the CE pin.
+    pub fn ce(&mut self, high: bool) -> Result<(), Refusal>
+        ensures answer { result ≡ ce_answer self.old }
+        ensures state { self.new ≡ ce_after high self.old }
+    {
+        self.ensure_sound()?;
+        let role = self.role();
+        self.core.set_ce(role, high);
+        Ok(())
+    }
+}
+
 impl<C: Check> Boxed<C> {
-    // One tick of 10 µs. The answer is the bit count of the frame that is sent, 0 for none, as the radio's calls have it
-    // (docs/MODES.md); it stands in the buffer.
+    // One tick of 10 µs. The answer is the bit count of the frame that is sent, 0 for none; it stands in the buffer.
     pub fn tick(&mut self, buffer: &mut [u8]) -> Result<usize, Refusal>
         ensures answer { result ≡ tick_answer C.Check.W C.meaning self.old.state (length buffer.old) }
         ensures state { self.new.state ≡ tick_after self.old.state (length buffer.old) }
         ensures buffer { buffer.new ≡ tick_buffer C.Check.W C.meaning self.old.state buffer.old }
     {
-        self.state.ensure_sound()?;
-        ensure_frame_fits(buffer)?;
-        Ok(put_frame::<C>(self.state.tick(), buffer))
+        self.state.tick::<C>(buffer)
     }
 
     // Sets the level of the CE pin.
@@ -73,9 +95,6 @@ impl<C: Check> Boxed<C> {
         ensures answer { result ≡ ce_answer self.old.state }
         ensures state { self.new.state ≡ ce_after high self.old.state }
     {
-        self.state.ensure_sound()?;
-        let role = self.state.role();
-        self.state.core.set_ce(role, high);
-        Ok(())
+        self.state.ce(high)
     }
 }

@@ -1,0 +1,5 @@
+pub mod Offered
+pub mod Within
+pub mod Patterned
+pub mod Heard
+pub mod Alike
