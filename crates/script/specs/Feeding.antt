@@ -1,0 +1,39 @@
+-- A script as a whole: its lines, what they print and what the console is after them.
+use Rattle.std.specs.Prelude.{◌≡◌, ℕ, List, [], ◌∷◌, ◌++◌, ◌==◌, if◌then◌else◌, Option, IfSome}
+use Rattle.std.specs.Io.KnownBytes.{Appends}
+use Rattle.words.specs.Split.{words_of}
+use Rattle.script.specs.declared.feeding.Halt.{Halt}
+use Rattle.script.specs.declared.feeding.Halt.TheVariants.{Input, Output, Memory}
+use Rattle.script.specs.declared.running.Console.{Console}
+use Rattle.script.specs.Console.{printed, after}
+
+-- a byte before the first line, or as a line of its own where there is none
+abbrev pub onto_first : ℕ → List (List ℕ) → List (List ℕ)
+onto_first x [] = (x ∷ []) ∷ []
+onto_first x (l ∷ ls) = (x ∷ l) ∷ ls
+
+-- a newline ends its line; a last line may have none, and behind the last newline there is no line
+abbrev pub lines_of : List ℕ → List (List ℕ)
+lines_of [] = []
+lines_of (x ∷ xs) = if x == 10 then (x ∷ []) ∷ lines_of xs else onto_first x (lines_of xs)
+
+-- the console after lines, one after the other
+abbrev pub after_lines : Console → List (List ℕ) → Console
+after_lines c [] = c
+after_lines c (l ∷ ls) = after_lines (after c (words_of l)) ls
+
+-- what they print
+abbrev pub printed_lines : Console → List (List ℕ) → List ℕ
+printed_lines c [] = []
+printed_lines c (l ∷ ls) = printed c (words_of l) ++ printed_lines (after c (words_of l)) ls
+
+-- these are the lines of the bytes, where those are known; these are the first of them
+abbrev pub AreLines : Option (List ℕ) → List (List ℕ) → Type 0
+AreLines known ls = IfSome known (λ xs. ls ≡ lines_of xs)
+
+abbrev pub AreFirstLines : Option (List ℕ) → List (List ℕ) → Type 0
+AreFirstLines known ls = IfSome known (λ xs. (more : List (List ℕ)) × (lines_of xs ≡ ls ++ more))
+
+-- these lines were taken, each once and in order, and the known bytes of the output grew by what they print
+abbrev pub Takes : List (List ℕ) → Console → Console → Option (List ℕ) → Option (List ℕ) → Type 0
+Takes ls old new before later = (new ≡ after_lines old ls) × Appends before later (printed_lines old ls)
