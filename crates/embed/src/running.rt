@@ -1,19 +1,17 @@
 // The console over a whole script.
-ghost use Rattle.std.specs.Prelude.{◌≡◌};
-ghost use Rattle.embed.specs.Running.{front_written};
+ghost use Rattle.std.specs.Prelude.{◌≡◌, ◌≢◌, length, IfOk};
+ghost use Rattle.embed.specs.Running.{results, front_written, no_memory};
 
-use script::Console;
-use std::alloc::{AllocError, Global};
+use script::{Console, Halt, feed};
+use std::alloc::Global;
 
 // What a new console prints of the script's lines.
-fn results(heap: Global, script: &[u8]) -> Result<Vec<u8>, AllocError>
-    //ensures { IfOk result (λ text. text.items ≡ results script.now) }
+fn results(heap: Global, script: &[u8]) -> Result<Vec<u8>, Halt>
+    ensures { IfOk result (λ text. text.items ≡ results script.now) }
 {
     let mut console = Console::new();
     let mut text = Vec::new(heap);
-    for line in script.split_inclusive(|byte| *byte == b'\n') {
-        console.take(heap, line, &mut text)?;
-    }
+    feed(&mut console, heap, script, &mut text)?;
     Ok(text)
 }
 
@@ -28,8 +26,8 @@ fn write_front(text: &[u8], out: &mut [u8])
 // `out`; later bytes stay. Where there was no memory the answer is the greatest number, and `out` stays.
 #[unsafe(no_mangle)]
 pub extern "C" fn sinkapricot_run(heap: Global, script: &[u8], out: &mut [u8]) -> usize
-    //ensures ran { result ≢ no_memory → (result ≡ length (results script.now)) × (out.new ≡ front_written (results script.now) out.old) }
-    //ensures memory { result ≡ no_memory → out.new ≡ out.old }
+    ensures ran { result ≢ no_memory → (result ≡ length (results script.now)) × (out.new ≡ front_written (results script.now) out.old) }
+    ensures memory { result ≡ no_memory → out.new ≡ out.old }
 {
     match results(heap, script) {
         Ok(text) => {
