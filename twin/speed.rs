@@ -6,7 +6,7 @@ mod twin;
 
 use std::hint::black_box;
 use std::time::Instant;
-use twin::{Bench, Boxed, Check, Crc8, Crc16, Kind, pack, read_frame};
+use twin::{Bench, Boxed, Cell, Check, Crc8, Crc16, Kind, pack, read_frame};
 
 const ADDRESS: [u8; 5] = [0xE7; 5];
 const PAYLOAD: [u8; 32] = [0x5A; 32];
@@ -21,6 +21,8 @@ mod ours {
         pub safe fn sinkapricot_repeat_tick_waiting(turns: u64) -> u64;
         pub safe fn sinkapricot_repeat_hear_taking(turns: u64) -> u64;
         pub safe fn sinkapricot_repeat_hear_knowing(turns: u64) -> u64;
+        pub safe fn sinkapricot_repeat_exchange(turns: u64) -> u64;
+        pub safe fn sinkapricot_repeat_round(turns: u64, every: u64) -> u64;
     }
 }
 
@@ -156,6 +158,94 @@ fn knowing(turns: u64) -> u64 {
     (0..turns).fold(0u64, |sum, _| sum.wrapping_add(know_again(&mut unit, &frame, &mut buffer)))
 }
 
+fn boxed(profile: &[u8]) -> Boxed<Crc16> {
+    let mut bench = Bench::new();
+    let _ = bench.load(profile);
+    bench.boxed()
+}
+
+fn sender_to(pipe: u8) -> Boxed<Crc16> {
+    let address = match pipe {
+        0 => [0xE7; 5],
+        1 => [0xC2; 5],
+        _ => [0xC1 + pipe, 0xC2, 0xC2, 0xC2, 0xC2],
+    };
+    let mut profile = vec![0x00, 0x01, 0x04, 0x11, 0x0C, 0x2F];
+    profile.extend(address);
+    profile.extend(address);
+    boxed(&profile)
+}
+
+fn cell_of_six() -> Cell<Crc16> {
+    let receiver = [0x00, 0x7E, 0x00, 0x05, 0x0D, 0x3F, 0x20, 0x20, 0x20, 0x20, 0x20, 0x20];
+    let mut units = vec![boxed(&receiver)];
+    units.extend((0..6).map(sender_to));
+    let Ok(mut cell) = Cell::make(units) else { panic!("no cell") };
+    for unit in 0..7 {
+        let config = if unit == 0 { 0x0F } else { 0x0E };
+        let _ = cell.ce(unit, true);
+        let _ = cell.command(unit, &[0x20, config], &mut [0; 33]);
+        for _ in 0..213 {
+            let _ = cell.tick(unit);
+        }
+    }
+    cell
+}
+
+fn delivered(cell: &mut Cell<Crc16>, reply: &mut [u8; 33]) -> u64 {
+    let _ = cell.carry(1, 0, 0);
+    let _ = cell.carry(1, 0, 0);
+    cell.command(0, &[0x61], reply).unwrap_or(0) as u64
+}
+
+#[inline(never)]
+fn exchange_again(cell: &mut Cell<Crc16>, host: &mut [u8; 33], reply: &mut [u8; 33]) -> u64 {
+    let _ = cell.command(1, host, reply);
+    for _ in 0..14 {
+        let _ = cell.tick(1);
+    }
+    host[1] = host[1].wrapping_add(1);
+    delivered(cell, reply)
+}
+
+fn exchanges(turns: u64) -> u64 {
+    let mut cell = cell_of_six();
+    let mut host = [0x5A; 33];
+    host[0] = 0xA0;
+    let mut reply = [0; 33];
+    (0..turns).fold(0u64, |sum, _| sum.wrapping_add(exchange_again(&mut cell, &mut host, &mut reply)))
+}
+
+#[inline(never)]
+fn round_again(cell: &mut Cell<Crc16>, reply: &mut [u8; 33]) -> u64 {
+    let mut sum = 0u64;
+    for unit in 1..7 {
+        if cell.tick(unit).unwrap_or(0) > 0 {
+            sum = sum.wrapping_add(delivered(cell, reply));
+        }
+    }
+    sum
+}
+
+fn round(turns: u64, every: u64) -> u64 {
+    let mut cell = cell_of_six();
+    let mut host = [0x5A; 33];
+    host[0] = 0xA0;
+    let mut reply = [0; 33];
+    let (mut sum, mut left) = (0u64, 0u64);
+    for _ in 0..turns {
+        if left == 0 {
+            for unit in 1..7 {
+                let _ = cell.command(unit, &host, &mut reply);
+            }
+            left = every;
+        }
+        left = left.saturating_sub(1);
+        sum = sum.wrapping_add(round_again(&mut cell, &mut reply));
+    }
+    sum
+}
+
 // ---- measuring
 
 struct Row {
@@ -184,7 +274,7 @@ fn measure(row: &Row, rounds: u64) -> bool {
     }
     let remark = if same { "" } else { " DIFFERENT ANSWERS" };
     println!(
-        "| {:52} | {best_ours:10.1} | {best_twins:10.1} | {:6.2} |{remark}",
+        "| {:67} | {best_ours:10.1} | {best_twins:10.1} | {:6.2} |{remark}",
         row.what,
         best_ours / best_twins
     );
@@ -254,9 +344,21 @@ fn main() {
             ours: |n| ours::sinkapricot_repeat_hear_knowing(n),
             twins: knowing,
         },
+        Row {
+            what: "a whole exchange of 32 bytes: written, 14 ticks, two carries, read",
+            turns: 50_000,
+            ours: |n| ours::sinkapricot_repeat_exchange(n),
+            twins: exchanges,
+        },
+        Row {
+            what: "a round, a tick of each of 6 senders, a payload every 6,000 ticks",
+            turns: 360_000,
+            ours: |n| ours::sinkapricot_repeat_round(n, 6_000),
+            twins: |n| round(n, 6_000),
+        },
     ];
-    println!("| {:52} | engine, ns | twin, ns   | ratio  |", "");
-    println!("|{}|------------|------------|--------|", "-".repeat(54));
+    println!("| {:67} | engine, ns | twin, ns   | ratio  |", "");
+    println!("|{}|------------|------------|--------|", "-".repeat(69));
     let mut same = true;
     for row in &rows {
         same &= measure(row, rounds);

@@ -1,3 +1,4 @@
 pub mod Packing
 pub mod Reading
+pub mod Repeating
 pub mod Running

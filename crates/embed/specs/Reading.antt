@@ -1,5 +1,5 @@
 -- What a reading answers to C.
-use Rattle.std.specs.Prelude.{ℕ, ◌*◌, Bool, ◌&&◌, ◌||◌, List, ◌++◌, length, take, drop, replicate, if◌then◌else◌, Some, None, Option, ◌==◌, nat_le}
+use Rattle.std.specs.Prelude.{ℕ, ◌*◌, Bool, false, ◌&&◌, ◌||◌, List, ◌++◌, length, take, drop, replicate, if◌then◌else◌, Some, None, Option, ◌==◌, nat_le}
 use Rattle.checks.specs.Bits.{bits}
 use Rattle.checks.specs.Crc.{crc8, crc16}
 use Rattle.frames.specs.Packet.{Packet, covered, reading}
@@ -12,6 +12,10 @@ outcome_number said.Nothing = 0
 outcome_number said.Packet = 1
 outcome_number said.Refused = 18
 outcome_number said.NoCall = 255
+
+-- nothing was read yet
+abbrev pub no_packet : PacketRead
+no_packet = record { check = 0; pid = 0; no_ack = false; length = 0; address = replicate 5 0; payload = replicate 32 0 }
 
 -- a packet and its check, as C has them
 abbrev pub shown : ℕ → Packet → PacketRead

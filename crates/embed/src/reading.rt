@@ -3,7 +3,7 @@ ghost use Rattle.std.specs.Prelude.{◌≡◌, ◌*◌, length, take};
 ghost use Rattle.checks.specs.Bits.{bits as bits_of};
 ghost use Rattle.frames.specs.Packet.{reading};
 ghost use Rattle.frames.specs.Calls.{width_of, packet_of};
-ghost use Rattle.embed.specs.Reading.{outcome_number, shown, outcome_of, after, outcome, packet_after};
+ghost use Rattle.embed.specs.Reading.{no_packet, outcome_number, shown, outcome_of, after, outcome, packet_after};
 
 use checks::{Check, Crc8, Crc16};
 use frames::{AddressWidth, Heard};
@@ -23,7 +23,9 @@ pub struct PacketRead {
 
 impl PacketRead {
     // Before anything was read.
-    pub(crate) fn none() -> PacketRead {
+    pub(crate) fn none() -> PacketRead
+        ensures { result ≡ no_packet }
+    {
         PacketRead {
             check: 0,
             pid: 0,
