@@ -2,3 +2,4 @@ pub mod Packing
 pub mod Reading
 pub mod Repeating
 pub mod Running
+pub mod Units

@@ -2,4 +2,5 @@
 // number that depends on every turn. What one turn is, is told exactly enough that a loop over the other engine does the same.
 mod checks_again;
 mod frames_again;
+mod units_again;
 mod work;
