@@ -113,7 +113,10 @@ impl Work for Hearing {
 
     #[inline(never)]
     fn turn(&mut self) {
-        let bits = self.state.hear::<Crc16>(&self.frame, 329, &mut self.buffer).unwrap_or(0);
+        let bits = self
+            .state
+            .hear::<Crc16>(&self.frame, 329, &mut self.buffer)
+            .unwrap_or(0);
         self.sum = self.sum.saturating_add(bits as u64);
         let _reply = self.state.command(&[0xE2], &mut self.buffer);
         mem::swap(&mut self.frame, &mut self.other);
@@ -158,7 +161,10 @@ impl Work for Knowing {
 
     #[inline(never)]
     fn turn(&mut self) {
-        let bits = self.state.hear::<Crc16>(&self.frame, 329, &mut self.buffer).unwrap_or(0);
+        let bits = self
+            .state
+            .hear::<Crc16>(&self.frame, 329, &mut self.buffer)
+            .unwrap_or(0);
         self.sum = self.sum.saturating_add(bits as u64);
     }
 }
