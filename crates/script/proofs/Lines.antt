@@ -6,7 +6,7 @@ use Rattle.std.proofs.KnownBytes.{Appends-nil, Appends-trans}
 use Rattle.words.specs.Split.{words_of}
 use Rattle.script.specs.declared.running.Console.{Console}
 use Rattle.script.specs.Console.{printed, after}
-use Rattle.script.specs.Feeding.{onto_first, lines_of, after_lines, printed_lines, AreLines, Takes}
+use Rattle.script.specs.Feeding.{onto_first, lines_of, after_lines, printed_lines, AreLines, AreFirstLines, Takes, TakesAndCuts}
 
 -- ---- lines
 
@@ -24,6 +24,11 @@ pub AreLines-of_end : (a b : Option (List ℕ)) (ls : List (List ℕ)) → Leave
 AreLines-of_end None b ls h end = tt
 AreLines-of_end (Some xs) None ls h end = absurd h
 AreLines-of_end (Some xs) (Some ys) ls h end = sym (h ∙ ap (λ zs. ls ++ lines_of zs) end ∙ append-nil ls)
+
+pub AreFirstLines-of_left : (a b : Option (List ℕ)) (ls : List (List ℕ)) → Leaves a ls b → AreFirstLines a ls
+AreFirstLines-of_left None b ls h = tt
+AreFirstLines-of_left (Some xs) None ls h = absurd h
+AreFirstLines-of_left (Some xs) (Some ys) ls h = (lines_of ys, h)
 
 first_by_test : (b : Bool) (x : ℕ) (xs : List ℕ) → onto_first x (lines_of xs) ≡ (x ∷ take_through 10 xs) ∷ lines_of (drop_through 10 xs)
     → cond b ((x ∷ []) ∷ lines_of xs) (onto_first x (lines_of xs)) ≡ cond b (x ∷ []) (x ∷ take_through 10 xs) ∷ lines_of (cond b xs (drop_through 10 xs))
@@ -67,8 +72,14 @@ pub Takes-more : (ls : List (List ℕ)) (line text : List ℕ) (old mid new : Co
     → new ≡ after mid (words_of line) → text ≡ printed mid (words_of line) → Appends b c text → Takes (ls ++ line ∷ []) old new a c
 Takes-more ls line text old mid new a b c took step says grown =
     let at = λ (k : Console). after k (words_of line) in
-    let says' : text ≡ printed (after_lines old ls) (words_of line) = says ∙ ap (λ k. printed k (words_of line)) took.0 in
-    (
+    let says' : text ≡ printed (after_lines old ls) (words_of line) = says ∙ ap (λ k. printed k (words_of line)) took.0 in (
       step ∙ ap at took.0 ∙ sym (after_lines-append old ls line),
       subst (Appends a c) (ap (λ t. printed_lines old ls ++ t) says' ∙ sym (printed_lines-append old ls line)) (Appends-trans a b c _ _ took.1 grown),
     )
+
+pub Cuts-at : (ls : List (List ℕ)) (line text front rest : List ℕ) (old mid new : Console) (a b c : Option (List ℕ)) → Takes ls old mid a b
+    → new ≡ after mid (words_of line) → text ≡ printed mid (words_of line) → text ≡ front ++ rest → Appends b c front → TakesAndCuts ls line old new a c
+Cuts-at ls line text front rest old mid new a b c took step says split grown = (
+  step ∙ ap (λ (k : Console). after k (words_of line)) took.0 ∙ sym (after_lines-append old ls line),
+  (front, rest, ap (λ (k : Console). printed k (words_of line)) (sym took.0) ∙ sym says ∙ split, Appends-trans a b c _ _ took.1 grown),
+)

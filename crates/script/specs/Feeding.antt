@@ -34,6 +34,18 @@ AreLines known ls = IfSome known (λ xs. ls ≡ lines_of xs)
 abbrev pub AreFirstLines : Option (List ℕ) → List (List ℕ) → Type 0
 AreFirstLines known ls = IfSome known (λ xs. (more : List (List ℕ)) × (lines_of xs ≡ ls ++ more))
 
--- these lines were taken, each once and in order, and the known bytes of the output grew by what they print
+-- the lines were taken, each once and in order, and the known bytes of the output grew by what they print
 abbrev pub Takes : List (List ℕ) → Console → Console → Option (List ℕ) → Option (List ℕ) → Type 0
 Takes ls old new before later = (new ≡ after_lines old ls) × Appends before later (printed_lines old ls)
+
+-- the same, and then one more line was taken, and a front of what it prints was written
+abbrev pub TakesAndCuts : List (List ℕ) → List ℕ → Console → Console → Option (List ℕ) → Option (List ℕ) → Type 0
+TakesAndCuts ls line old new before later = (new ≡ after_lines old (ls ++ line ∷ []))
+    × ((front : List ℕ) × (rest : List ℕ) × (printed (after_lines old ls) (words_of line) ≡ front ++ rest) × Appends before later (printed_lines old ls ++ front))
+
+-- What stands where a run ends early. Where the input fails, or has more lines than can be counted, the first lines were taken. Where the
+-- output fails, so was the line whose result could not be written. Where memory runs out, nothing is known of the console.
+abbrev pub Stops : Halt → Option (List ℕ) → Console → Console → Option (List ℕ) → Option (List ℕ) → Type 0
+Stops (Input e) known old new before later = (ls : List (List ℕ)) × AreFirstLines known ls × Takes ls old new before later
+Stops (Output e) known old new before later = (ls : List (List ℕ)) × (line : List ℕ) × AreFirstLines known (ls ++ line ∷ []) × TakesAndCuts ls line old new before later
+Stops Memory known old new before later = (ls : List (List ℕ)) × AreFirstLines known ls × Appends before later (printed_lines old ls)

@@ -3,8 +3,10 @@
 
 #[cfg(test)]
 mod tests {
-    use script::{Console, feed};
+    use script::{Console, Halt, feed};
     use std::alloc::Global;
+    use std::io;
+    use std::io::{ErrorKind, Read, Write};
     use std::process::Abort;
 
     // Feeds a script to a new console, and compares what it writes and how many lines could not be carried out.
@@ -295,5 +297,92 @@ mod tests {
             b"1: ok\n2: refused 12 00 (the check finds a fault in CONFIG)\n3: ok\n4: ok high\n5: ok\n6: ok\n7: ok\n8: ok\n9: ok high\n",
             0,
         );
+    }
+
+    // Gives its bytes one at a time, each after an interruption, and then fails.
+    #[derive(Drop)]
+    struct Broken<'a> {
+        rest: &'a [u8],
+        interrupted: bool,
+    }
+
+    impl Read for Broken<'_> {
+        fn read(&mut self, buf: &mut [u8]) -> io::Result<usize> {
+            self.interrupted = !self.interrupted;
+            if self.interrupted {
+                return Err(ErrorKind::Interrupted.into());
+            }
+            let Some((first, rest)) = self.rest.split_first() else {
+                return Err(ErrorKind::BrokenPipe.into());
+            };
+            let Some(place) = buf.first_mut() else {
+                return Ok(0);
+            };
+            *place = *first;
+            self.rest = rest;
+            Ok(1)
+        }
+    }
+
+    // Where the input fails, the whole lines before that are taken and written, and the begun one is not.
+    #[test]
+    fn broken_input(rt: HostRuntime) {
+        let heap = rt.alloc();
+        let mut console = Console::new();
+        let mut out: Vec<u8> = Vec::new(heap);
+        let input = Broken {
+            rest: b"kind crc8\nfoo\nkind crc16\nkind cr",
+            interrupted: false,
+        };
+        let fed = feed(&mut console, heap, input, &mut out);
+        assert!(rt; matches!(fed, Err(Halt::Input(_))));
+        let why: &[u8] = b"1: ok\n2: cannot (word 1: a line begins with kind, pack, read, bench, load, field, check, box, irq or command)\n3: ok\n";
+        assert!(rt; out.as_slice() == why);
+        assert!(rt; console.tally() == (2, 1));
+    }
+
+    // Takes two bytes at a time, each time after an interruption, as long as there is room.
+    struct Narrow<'a> {
+        held: &'a mut Vec<u8>,
+        room: usize,
+        interrupted: bool,
+    }
+
+    impl Write for Narrow<'_> {
+        fn write(&mut self, buf: &[u8]) -> io::Result<usize> {
+            self.interrupted = !self.interrupted;
+            if self.interrupted {
+                return Err(ErrorKind::Interrupted.into());
+            }
+            let count = buf.len().min(2).min(self.room);
+            if count == 0 {
+                return Err(ErrorKind::BrokenPipe.into());
+            }
+            self.held.extend_from_slice(&buf[..count])?;
+            self.room -= count;
+            Ok(count)
+        }
+
+        fn flush(&mut self) -> io::Result<()> {
+            Ok(())
+        }
+    }
+
+    // Where the output fails, a front of the results is written, and the line whose result fails is the last that is taken.
+    #[test]
+    fn broken_output(rt: HostRuntime) {
+        let heap = rt.alloc();
+        let mut console = Console::new();
+        let mut held: Vec<u8> = Vec::new(heap);
+        let mut out = Narrow {
+            held: &mut held,
+            room: 9,
+            interrupted: false,
+        };
+        let script: &[u8] = b"kind crc8\nkind crc16\nkind crc8\n";
+        let fed = feed(&mut console, heap, script, &mut out);
+        assert!(rt; matches!(fed, Err(Halt::Output(_))));
+        assert!(rt; held.as_slice() == b"1: ok\n2: ");
+        assert!(rt; console.tally() == (2, 0));
     }
 }

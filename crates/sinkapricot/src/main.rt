@@ -7,15 +7,24 @@ use std::io::{BufWriter, Write};
 use std::process::ExitCode;
 use std::{env, io};
 
+// What was told on standard error by then, so that it is not told once more.
+#[derive(Drop)]
+enum Told {
+    // a script was not read to its end, or had lines that could not be carried out
+    Script,
+    // the output failed, so that nothing more can be written to it
+    Output,
+}
+
 // Says on standard error why a script was not read to its end.
-fn tell(rt: &HostRuntime, name: &str, halt: Halt) -> io::Error {
-    let (place, e) = match halt {
-        Halt::Input(e) => (name, e),
-        Halt::Output(e) => ("standard output", e),
-        Halt::Memory => (name, io::Error::other("out of memory")),
+fn tell(rt: &HostRuntime, name: &str, halt: Halt) -> Told {
+    let (place, told, e) = match halt {
+        Halt::Input(e) => (name, Told::Script, e),
+        Halt::Output(e) => ("standard output", Told::Output, e),
+        Halt::Memory => (name, Told::Script, io::Error::other("out of memory")),
     };
     let _ = eprintln!(rt; "sinkapricot: {place}: {e}");
-    e
+    told
 }
 
 fn feed_file<W: Write>(
@@ -29,8 +38,9 @@ fn feed_file<W: Write>(
 }
 
 // Takes the lines of all scripts, one after another.
-fn feed_all<W: Write>(rt: &HostRuntime, console: &mut Console, out: &mut W) -> io::Result<()> {
-    let args = env::args(rt).map_err(|e| tell(rt, "the arguments", Halt::Input(e)))?;
+fn feed_all<W: Write>(rt: &HostRuntime, console: &mut Console, out: &mut W) -> Result<(), Told> {
+    let args = env::args(rt);
+    let args = args.map_err(|e| tell(rt, "the arguments (UTF-8)", Halt::Input(e)))?;
     let mut names = args.skip(1).peekable();
     if names.peek().is_none() {
         return feed(console, rt.alloc(), rt.stdin(), out).map_err(|halt| tell(
@@ -55,22 +65,23 @@ fn close<W: Write>(console: &Console, out: &mut W) -> io::Result<()> {
     out.flush()
 }
 
-fn run(rt: &HostRuntime) -> io::Result<()> {
+fn run(rt: &HostRuntime) -> Result<(), Told> {
     let mut console = Console::new();
     let out = BufWriter::new(rt.alloc(), rt.stdout());
     let mut out = out.map_err(|_| tell(rt, "standard output", Halt::Memory))?;
     let fed = feed_all(rt, &mut console, &mut out);
-    close(&console, &mut out).map_err(|e| tell(rt, "", Halt::Output(e)))?;
+    if !matches!(fed, Err(Told::Output)) {
+        close(&console, &mut out).map_err(|e| tell(rt, "", Halt::Output(e)))?;
+    }
     fed?;
     let (_, unable) = console.tally();
     if unable > 0 {
         let _ = eprintln!(rt; "sinkapricot: {unable} lines could not be carried out");
-        return Err(io::Error::other("some lines could not be carried out"));
+        return Err(Told::Script);
     }
     Ok(())
 }
 
-// What failed was told by then, so it is not printed once more.
 fn main(rt: HostRuntime) -> ExitCode {
     match run(&rt) {
         Ok(()) => ExitCode::SUCCESS,

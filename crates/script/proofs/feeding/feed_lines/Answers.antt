@@ -1,6 +1,8 @@
-use Rattle.std.proofs.Common.{◌≡◌, List, ℕ, [], ◌<◌, length, Ok, rules, arith}
-use Rattle.std.proofs.lemmas.Result.{MatchResult-at_ok}
-use Rattle.script.proofs.Lines.{Leaves-none, Leaves-more, AreLines-of_end, Takes-none, Takes-more}
+use Rattle.std.proofs.Common.{◌≡◌, [], ◌<◌, length, rules, arith}
+use Rattle.std.proofs.lemmas.Result.{err_from_is_err_and}
+use Rattle.words.specs.Split.{words_of}
+use Rattle.script.specs.Console.{printed}
+use Rattle.script.proofs.Lines.{Leaves-none, Leaves-more, AreLines-of_end, AreFirstLines-of_left, Takes-none, Takes-more, Cuts-at}
 use Rattle.script.proofs.feeding.feed_lines.Goals as goal
 
 pub loop-init : goal.loop-init
@@ -10,15 +12,42 @@ pub loop-preserved : goal.loop-preserved
 loop-preserved g c =
     let (ls, leaves, took) = c.loop.invariant in
     let line = c.read_until.new.buf.items in
-    let read : c.read_until.result ≡ Ok c.in_ok-map_err.field-0 = search rules in
-    let some : 0 < length line = omega (arith, MatchResult-at_ok _ _ _ read c.read_until.ensures.ok, c.read_until.new.buf.ok.0, c.if-branch-eq0.false) in
-    (
+    let some : 0 < length line = omega (arith, c.in-Ok.ensures.ok, c.in-Ok.field-0-test, c.read_until.new.buf.ok.0) in (
       _,
-      Leaves-more _ _ _ ls c.clear.new.self.items line leaves (search rules) some (search rules) (search rules),
+      Leaves-more _ _ _ ls c.clear.new.self.items line leaves (search rules) some c.in-Ok.ensures.bytes c.in-Ok.ensures.rest,
       Takes-more ls line c.take.new.out.items _ _ _ _ _ _ took (search rules) (search rules) (search rules),
     )
 
-pub returns-then-branch-eq0 : goal.returns-then-branch-eq0
-returns-then-branch-eq0 g c =
+pub returns-in-Ok-eq0 : goal.returns-in-Ok-eq0
+returns-in-Ok-eq0 g c =
     let (ls, leaves, took) = c.loop.invariant in
-    (ls, AreLines-of_end _ _ _ leaves (search rules), took)
+    record { all = (ls, AreLines-of_end _ _ _ leaves (search rules), took); stopped = tt }
+
+pub returns-in-Err-clause-stopped : goal.returns-in-Err-clause-stopped
+returns-in-Err-clause-stopped g c =
+    let (ls, leaves, took) = c.loop.invariant in
+    (ls, AreFirstLines-of_left _ _ _ leaves, took)
+
+pub returns-in_err-take-clause-stopped : goal.returns-in_err-take-clause-stopped
+returns-in_err-take-clause-stopped g c =
+    let (ls, leaves, took) = c.loop.invariant in
+    let p = err_from_is_err_and c.from_residual.result c.from_residual.ensures.1 in
+    rw (p.1, p.2) (ls, AreFirstLines-of_left _ _ _ leaves, took.1)
+
+pub returns-in-Err-write_text-clause-stopped : goal.returns-in-Err-write_text-clause-stopped
+returns-in-Err-write_text-clause-stopped g c =
+    let (ls, leaves, took) = c.loop.invariant in
+    let line = c.read_until.new.buf.items in
+    let some : 0 < length line = omega (arith, c.in-Ok.ensures.ok, c.in-Ok.field-0-test, c.read_until.new.buf.ok.0) in
+    let says : c.deref-in-loop.result.now ≡ printed c.loop.console (words_of line) = search rules in
+    let (front, rest, split, grown) = c.in-Err-write_text.ensures.err in (
+      ls,
+      line,
+      AreFirstLines-of_left _ _ _ (Leaves-more _ _ _ ls c.clear.new.self.items line leaves (search rules) some c.in-Ok.ensures.bytes c.in-Ok.ensures.rest),
+      Cuts-at ls line c.deref-in-loop.result.now front rest _ _ _ _ _ _ took (search rules) says split grown,
+    )
+
+pub returns-clause-stopped : goal.returns-clause-stopped
+returns-clause-stopped g c =
+    let (ls, leaves, took) = c.loop.invariant in
+    (ls, AreFirstLines-of_left _ _ _ leaves, took)
