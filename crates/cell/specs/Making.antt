@@ -21,9 +21,6 @@ use Rattle.unit.specs.Commanding.{alike}
 use Rattle.unit.specs.Hearing.{pipe_of, address_width}
 use Rattle.unit.specs.Boxing.{boxed}
 use Rattle.cell.specs.declared.parts.Inside.{Inside}
-use Rattle.cell.specs.declared.refusal.Refusal.{Refusal}
-use Rattle.cell.specs.declared.refusal.Cause.TheVariants.{CannotBeMade}
-use Rattle.cell.specs.Refusals.{refusal_of}
 use Rattle.cell.specs.Calls.{unit_at}
 
 -- ---- units as boxing without a fault gives them
@@ -129,24 +126,16 @@ made us = record { places = record { at = places_of us }; air = None }
 abbrev pub NewlyMade : ℕ → Inside → Type 0
 NewlyMade width c = (us : List State) × (unit_at_fault width us ≡ None) × (c ≡ made us)
 
--- ---- what the types of a unit's parts keep, and no definition says
+-- ---- what the types of a unit's parts keep: the program has no other units, and the definitions leave it out
 
--- the address in use is of bytes, as many as the width says, and there are six memories
+-- the address in use is of bytes below 256, as many as the width says, and there are six memories
 abbrev pub OfBytesState : State → Type 0
 OfBytesState s = Bytes (tx_address s.registers) × (length (tx_address s.registers) ≡ address_width s) × (length s.memories.at ≡ 6)
 
 abbrev pub OfBytesInside : Inside → Type 0
 OfBytesInside c = (u : ℕ) (s : State) → unit_at c u ≡ Some s → OfBytesState s
 
--- ---- what making answers
+-- ---- boxed units by their states
 
 abbrev pub states : {C : Type 0} → List (Boxed C) → List State
 states us = map (λ u. u.state) us
-
--- the cell that these units make
-abbrev pub MadeOf : ℕ → List State → Inside → Type 0
-MadeOf width us c = (unit_at_fault width us ≡ None) × (c ≡ made us) × OfBytesInside c
-
--- a refusal of these units, by the lowest one at fault
-abbrev pub UnmadeOf : ℕ → List State → Refusal → Type 0
-UnmadeOf width us e = (unit_at_fault width us ≡ Some e.unit) × (e ≡ refusal_of e.unit CannotBeMade)

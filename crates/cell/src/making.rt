@@ -8,7 +8,8 @@ ghost use Rattle.bench.specs.Checking.{in_use};
 ghost use Rattle.unit.specs.Commanding.{alike};
 ghost use Rattle.unit.specs.Units.{tx_address};
 ghost use Rattle.unit.specs.Hearing.{on_pipe};
-ghost use Rattle.cell.specs.Making.{as_boxed, is_shutdown, no_flag, nothing_in, tuned_alike, pipe_for, same_pipe, pipe_taken, receiver_fits, sender_fits, senders_at_fault, unit_at_fault, places_of, states, OfBytesState, MadeOf, UnmadeOf};
+ghost use Rattle.cell.specs.Refusals.{refusal_of};
+ghost use Rattle.cell.specs.Making.{as_boxed, is_shutdown, no_flag, nothing_in, tuned_alike, pipe_for, same_pipe, pipe_taken, receiver_fits, sender_fits, senders_at_fault, unit_at_fault, places_of, made, states, NewlyMade, OfBytesState, OfBytesInside};
 
 use crate::parts::{Cell, Inside, Places};
 use crate::refusal::{Cause, Refusal};
@@ -71,7 +72,7 @@ fn has_bit_of(receiver: &Registers, sender: &Registers, register: Register, plac
     stands(receiver.byte(register), place) == stands(sender.byte(register), place)
 }
 
-// Equal address width, channel, rate and CRCO. The rate by its two bits: one pair of them says no rate (docs/REGISTERS.md).
+// Equal address width, channel, rate and CRCO. The rate by its two bits, since `Rate` does not tell bit 5 alone from both.
 fn is_tuned_alike(receiver: &Registers, sender: &Registers) -> bool
     ensures { result ≡ tuned_alike receiver.now sender.now }
 {
@@ -213,11 +214,15 @@ pub struct Unmade<C> {
 }
 
 impl<C: Check> Cell<C> {
-    // Makes a cell of these units, in their order and with nothing on the air, if none is at fault; else they all come back. It
-    // allocates nothing: the vector is the caller's.
+    // Makes a cell of these units, in their order and with nothing on the air, if none is at fault; else they all come back
+    // (docs/CELL.md). It allocates nothing: the vector is the caller's.
     pub fn make(units: Vec<Boxed<C>>) -> Result<Cell<C>, Unmade<C>>
-        ensures made { IfOk result (λ c. MadeOf C.Check.W (states units.items) c.inside) }
-        ensures unmade { IfErr result (λ e. UnmadeOf C.Check.W (states units.items) e.refusal × (e.units ≡ units)) }
+        ensures fits { IfOk result (λ _. unit_at_fault C.Check.W (states units.items) ≡ None) }
+        ensures made { IfOk result (λ c. c.inside ≡ made (states units.items)) }
+        ensures newly { IfOk result (λ c. NewlyMade C.Check.W c.inside × OfBytesInside c.inside) }
+        ensures fault { IfErr result (λ e. unit_at_fault C.Check.W (states units.items) ≡ Some e.refusal.unit) }
+        ensures refusal { IfErr result (λ e. e.refusal ≡ refusal_of e.refusal.unit Cause.CannotBeMade) }
+        ensures back { IfErr result (λ e. e.units ≡ units) }
     {
         if let Some(unit) = unit_at_fault(&units) {
             return Err(Unmade {
