@@ -2,7 +2,7 @@
 // The maker runs its own lines through a console of twin.rs, to know which frames came and when a
 // scene has gone wrong; the script is plain text and does not depend on who carries it out.
 //
-// `script` keeps away from the places of the grammar that the documentation leaves open (UNCLEAR.md);
+// `script` keeps away from places 5, 6 and 10 of UNCLEAR.md and, but for rare chance, from place 3;
 // `script_with(seed, lines, true)` has these too.
 
 #[path = "twin.rs"]
@@ -254,6 +254,17 @@ impl Maker {
         if !self.misuse && self.random.chance(5) {
             self.misuse = true;
             self.wrong_line();
+            self.misuse = false;
+        }
+        if !self.misuse && self.random.chance(2) {
+            // The line with a word too many, or too few.
+            self.misuse = true;
+            let wrong = if self.random.chance(75) {
+                line.to_string() + self.random.one(&[" 0", " x", " 000", " 1 1"])
+            } else {
+                line.rsplit_once(' ').map_or(line, |(most, _)| most).to_string()
+            };
+            self.put(wrong.as_bytes());
             self.misuse = false;
         }
         let mut line = line.to_string();
@@ -717,7 +728,7 @@ impl Maker {
                     let length = if matches!(register, 0x0A | 0x0B | 0x10) { 5 } else { 1 };
                     let mut host = vec![0x20 + register];
                     if length == 1 && self.random.chance(50) {
-                        host.push(self.near_value());
+                        host.push(self.near_value(register));
                     } else if self.random.chance(50) {
                         host.extend(self.random.bytes(length));
                     } else {
@@ -746,7 +757,7 @@ impl Maker {
                         // A value that is not allowed, as a rule.
                         for _ in 0..self.random.between(1, 2) {
                             let place = self.random.below(fields.len());
-                            let near = self.near_value();
+                            let near = self.near_value(fields[place].0);
                             fields[place].1[0] = self.random.one(&[0x80, near, near, near | 0x80]);
                         }
                     }
@@ -837,18 +848,21 @@ impl Maker {
         host
     }
 
-    /// A value at or near the bounds of what some register takes.
-    fn near_value(&mut self) -> u8 {
-        match self.random.below(3) {
-            0 => 1 << self.random.below(8),
-            1 => {
-                self.random.one(&[0x28, 0x38, 0x2E, 0x26, 0x1E, 0x4E, 0x8E, 0x70, 0x7F, 0x3F, 0xC0])
-            }
-            _ => self.random.one(&[
-                0x00, 0x01, 0x03, 0x04, 0x1F, 0x20, 0x21, 0x22, 0x3F, 0x40, 0x7C, 0x7D, 0x7E, 0x7F,
-                0x80, 0x81, 0xFF,
-            ]),
+    /// A value at or near the bounds of what a register takes.
+    fn near_value(&mut self, register: u8) -> u8 {
+        if self.random.chance(15) {
+            return 1 << self.random.below(8);
         }
+        self.random.one(match register {
+            0x00 => &[0x00, 0x08, 0x0F, 0x7F, 0x80, 0x8C, 0x0C, 0x0D],
+            0x01 | 0x02 => &[0x00, 0x01, 0x3F, 0x40, 0x41, 0x80, 0x7F, 0x3E],
+            0x03 => &[0x00, 0x01, 0x02, 0x03, 0x04, 0x05, 0x81, 0xFF],
+            0x05 => &[0x00, 0x7C, 0x7D, 0x7E, 0x7F, 0x80, 0xFF],
+            0x06 => &[0x00, 0x08, 0x20, 0x28, 0x2E, 0x26, 0x0F, 0x10, 0x1E, 0x40, 0x80, 0x27],
+            0x07 => &[0x00, 0x70, 0x40, 0x20, 0x10, 0x0E, 0x01, 0x80, 0x71],
+            0x11..=0x16 => &[0x00, 0x01, 0x1F, 0x20, 0x21, 0x22, 0x40, 0x80],
+            _ => &[0x00, 0x01, 0x7F, 0x80, 0xFF],
+        })
     }
 
     /// Some command that does not change much.
@@ -1120,7 +1134,7 @@ impl Maker {
                     };
                     let mut address = receiver.pipe(pipe)[..receiver.width].to_vec();
                     if self.random.chance(5) {
-                        address[self.random.below(3)] ^= 1;
+                        address[self.random.below(receiver.width)] ^= 1;
                     }
                     if self.random.chance(4) {
                         address.resize(3 + self.random.below(3), 0xE7);
@@ -1185,7 +1199,7 @@ impl Maker {
                 4 => {
                     let mut address = sender.p0[..sender.width].to_vec();
                     if self.random.chance(25) {
-                        address[0] ^= 1;
+                        address[self.random.below(sender.width)] ^= 1;
                     }
                     let length = if self.random.chance(80) { 0 } else { self.random.between(1, 4) };
                     let payload = self.random.bytes(length);
@@ -1276,7 +1290,19 @@ impl Maker {
             maker.set_up(unit, plan);
             maker.say(&format!("box {unit}"));
         };
-        match self.random.below(if self.unclear { 11 } else { 10 }) {
+        match self.random.below(if self.unclear { 12 } else { 11 }) {
+            10 => {
+                // Another width with the same address as a number.
+                let mut plan = plans[unit].clone();
+                if plan.receiver() || plan.width == 5 {
+                    plan.width = plan.width % 3 + 3;
+                } else {
+                    plan.p0[plan.width..].fill(0);
+                    plan.tx = plan.p0;
+                    plan.width += self.random.between(1, 5 - plan.width);
+                }
+                again(self, &plan);
+            }
             7..=9 => {
                 self.used_unit(unit, &plans[unit]);
                 return;

@@ -1,5 +1,5 @@
 -- What a unit answers or lacks, in words.
-use Rattle.std.specs.Prelude.{ℕ, Bool, true, false, List, [], ◌∷◌, ◌++◌, Some, None, codes, Option}
+use Rattle.std.specs.Prelude.{ℕ, ◌+◌, ◌/◌, Bool, true, false, List, [], ◌∷◌, ◌++◌, take, Some, None, codes, Option}
 use Rattle.registers.specs.declared.register.Register.{Register}
 use Rattle.registers.specs.Address.{address_of}
 use Rattle.commands.specs.declared.refusal.Refusal.{Refusal}
@@ -7,8 +7,9 @@ use Rattle.commands.specs.Refusals.{numbered}
 use Rattle.commands.specs.Texts.{reason, register_name}
 use Rattle.words.specs.Numbers.{bytes_shown, decimal_shown}
 use Rattle.requests.specs.declared.lines.Lack.{Lack}
-use Rattle.requests.specs.declared.lines.Lack.TheVariants.{NoUnit, IsBoxed, OnBench, NoModes}
-use Rattle.desk.specs.Slots.{Said, done, pin, replied, refused}
+use Rattle.requests.specs.declared.lines.Lack.TheVariants.{NoUnit, IsBoxed, OnBench}
+use Rattle.desk.specs.declared.answer.Frame.{Frame}
+use Rattle.desk.specs.Answers.{Said, done, pin, replied, ticked, heard, refused}
 
 -- a blank and two hexadecimal digits
 abbrev pub register_digits : Option Register → List ℕ
@@ -28,19 +29,35 @@ pin_text false = codes "ok high"
 abbrev pub reply_text : List ℕ → List ℕ
 reply_text bytes = codes "ok" ++ bytes_shown bytes
 
+-- the bit count, and as many bytes as the bits fill
+abbrev pub frame_text : Frame → List ℕ
+frame_text x = codes "frame " ++ (decimal_shown x.bits ++ bytes_shown (take ((x.bits + 7) / 8) x.buffer))
+
+-- a frame behind other words, if there is one
+abbrev pub then_frame : Option Frame → List ℕ
+then_frame None = []
+then_frame (Some x) = codes " " ++ frame_text x
+
+abbrev pub ticked_text : ℕ → Option Frame → List ℕ
+ticked_text n x = codes "ok " ++ (decimal_shown n ++ then_frame x)
+
+abbrev pub heard_text : Option Frame → List ℕ
+heard_text x = codes "ok" ++ then_frame x
+
 abbrev pub said_text : Said → List ℕ
 said_text done = codes "ok"
 said_text (pin low) = pin_text low
 said_text (replied bytes) = reply_text bytes
+said_text (ticked n x) = ticked_text n x
+said_text (heard x) = heard_text x
 said_text (refused e) = refusal_text e
 
 -- ---- why a unit cannot do what a line asks
 
 abbrev pub lack_note : Lack → List ℕ
-lack_note NoUnit = codes " is not there; a line bench makes it"
+lack_note NoUnit = codes " is not there; a line bench makes one, 0 to 7"
 lack_note IsBoxed = codes " is boxed; the line is for a unit on the bench"
 lack_note OnBench = codes " is on the bench; the line is for a boxed unit"
-lack_note NoModes = codes " is boxed; host commands of a boxed unit come with the unit's modes"
 
 abbrev pub lack_text : ℕ → Lack → List ℕ
-lack_text label lack = codes "unit " ++ (decimal_shown label ++ lack_note lack)
+lack_text unit lack = codes "unit " ++ (decimal_shown unit ++ lack_note lack)

@@ -5,4 +5,4 @@ mod profiles;
 mod texts;
 
 pub use profiles::ProfileRows;
-pub use texts::{Lacking, Refused, Said, front};
+pub use texts::{Framed, Lacking, Refused, Said, front};

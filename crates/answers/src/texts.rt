@@ -1,10 +1,10 @@
 // What a unit answers or lacks, in words.
 ghost use Rattle.std.specs.Prelude.{◌≡◌, take, Some};
-ghost use Rattle.desk.specs.Slots.{said_of};
-ghost use Rattle.answers.specs.Texts.{refusal_text, pin_text, said_text, lack_note, lack_text};
+ghost use Rattle.desk.specs.Answers.{said_of};
+ghost use Rattle.answers.specs.Texts.{refusal_text, frame_text, said_text, lack_text};
 
 use commands::Refusal;
-use desk::{UnitAnswer, UnitResult};
+use desk::{Frame, UnitAnswer, UnitResult};
 use requests::Lack;
 use std::fmt;
 use words::Apart;
@@ -36,6 +36,19 @@ impl fmt::Display for Refused {
     }
 }
 
+// A frame: its bit count, and the bytes that its bits fill.
+#[derive(Clone, Copy, Debug)]
+pub struct Framed<'a>(pub &'a Frame);
+
+impl fmt::Display for Framed<'_> {
+    ghost output = { λ x. Some (frame_text x.0.now) };
+
+    fn fmt<W: fmt::Write>(&self, f: &mut fmt::Formatter<W>) -> fmt::Result {
+        let Frame { bits, buffer } = self.0;
+        write!(f, "frame {bits}{}", Apart(front(buffer, bits.div_ceil(8))))
+    }
+}
+
 // What a unit answered.
 #[derive(Clone, Copy)]
 pub struct Said<'a>(pub &'a UnitResult);
@@ -53,37 +66,49 @@ impl fmt::Display for Said<'_> {
                 "ok{}",
                 Apart(front(buffer, *length))
             ),
+            Ok(UnitAnswer::Ticks { taken, sent: None }) => write!(f, "ok {taken}"),
+            Ok(
+                UnitAnswer::Ticks {
+                    taken,
+                    sent: Some(frame),
+                },
+            ) => write!(f, "ok {taken} {}", Framed(frame)),
+            Ok(UnitAnswer::Heard { answer: None }) => f.write_str("ok"),
+            Ok(
+                UnitAnswer::Heard {
+                    answer: Some(frame),
+                },
+            ) => write!(f, "ok {}", Framed(frame)),
             Err(refusal) => write!(f, "{}", Refused(*refusal)),
         }
     }
 }
 
-// What the unit under a label lacks to do what a line asks.
+// What a unit lacks to do what a line asks.
 #[derive(Clone, Copy, Debug, PartialEq, Eq)]
 pub struct Lacking {
     // a number, as `requests::Cannot` has it
-    pub label: u8,
+    pub unit: u8,
     pub lack: Lack,
 }
 
 impl fmt::Display for Lacking {
-    ghost output = { λ x. Some (lack_text x.label x.lack) };
+    ghost output = { λ x. Some (lack_text x.unit x.lack) };
 
     fn fmt<W: fmt::Write>(&self, f: &mut fmt::Formatter<W>) -> fmt::Result {
-        let label = self.label;
+        let unit = self.unit;
         match self.lack {
-            Lack::NoUnit => write!(f, "unit {label} is not there; a line bench makes it"),
+            Lack::NoUnit => write!(
+                f,
+                "unit {unit} is not there; a line bench makes one, 0 to 7"
+            ),
             Lack::IsBoxed => write!(
                 f,
-                "unit {label} is boxed; the line is for a unit on the bench"
+                "unit {unit} is boxed; the line is for a unit on the bench"
             ),
             Lack::OnBench => write!(
                 f,
-                "unit {label} is on the bench; the line is for a boxed unit"
-            ),
-            Lack::NoModes => write!(
-                f,
-                "unit {label} is boxed; host commands of a boxed unit come with the unit's modes"
+                "unit {unit} is on the bench; the line is for a boxed unit"
             ),
         }
     }

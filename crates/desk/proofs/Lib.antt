@@ -1,2 +1,4 @@
 pub mod Bench
+pub mod InARow
 pub mod Kept
+pub mod Replies

@@ -1,3 +1,5 @@
+pub mod Answers
+pub mod Boxed
 pub mod Slots
 pub mod Desks
 pub mod Lending

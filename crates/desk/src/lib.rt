@@ -2,9 +2,10 @@
 #![tactic(auto)]
 
 mod answer;
+mod boxed;
 mod calling;
 mod slot;
 mod units;
 
-pub use answer::{UnitAnswer, UnitResult};
+pub use answer::{Frame, UnitAnswer, UnitResult};
 pub use slot::{AnyUnit, Desk, Units};

@@ -1,3 +1,4 @@
 pub mod Steps
 pub mod UnitLines
+pub mod CallLines
 pub mod Grammar

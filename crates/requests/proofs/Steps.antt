@@ -1,17 +1,18 @@
 -- The steps that lead from words to a request, forward and back.
-use Rattle.std.proofs.Common.{◌≡◌, ℕ, ◌+◌, ◌≤◌, Bool, true, false, cond, ltb, List, [], ◌∷◌, ◌++◌, reverse, length, Some, None, Ok, Err, Option, Result, sym, refl, ap, ◌∙◌, subst, append_assoc, append-nil, arith, rules}
+use Rattle.std.proofs.Common.{◌≡◌, ℕ, ◌+◌, ◌<◌, ◌≤◌, Bool, true, false, cond, eqb, ltb, List, [], ◌∷◌, ◌++◌, reverse, length, Some, None, Ok, Err, Option, Result, sym, refl, ap, ◌∙◌, subst, append_assoc, append-nil, arith, rules}
 use Rattle.std.specs.Str.{bytes_eq}
 use Rattle.std.proofs.lemmas.Slice.Eq.{bytes_eq-Decides}
 use Rattle.std.proofs.lemmas.Bool.{le-ltb, ltb-false}
 use Rattle.std.proofs.lemmas.Option.{cond_some}
-use Rattle.words.specs.Numbers.{within, byte_of}
+use Rattle.words.specs.Numbers.{within, byte_of, decimal_of}
 use Rattle.words.specs.Bytes.{bytes_after}
 use Rattle.requests.specs.declared.lines.Form.{Form}
 use Rattle.requests.specs.declared.lines.Cannot.{Cannot}
 use Rattle.requests.specs.declared.lines.Cannot.TheVariants.{Word, TooFew, TooMany}
+use Rattle.requests.specs.declared.lines.Wanted.{Wanted}
 use Rattle.requests.specs.declared.lines.Wanted.TheVariants as want
-use Rattle.requests.specs.Lines.{Request, at_least, at_most, then, or_else, as_address, number_in, as_bytes}
-use Rattle.requests.specs.Grammar.{Write}
+use Rattle.requests.specs.Lines.{Request, at_least, at_most, then, or_else, as_address, number_in, bit_of, as_bytes, line_as}
+use Rattle.requests.specs.Grammar.{Write, Asks}
 
 -- ---- one step, forward and back
 
@@ -43,12 +44,12 @@ enough k ws h = le-ltb (length ws) k h
 pub begun : {X Y : Type 0} (k : ℕ) (form : Form) (ws : List (List ℕ)) (x : Result X Cannot) (f : X → Result Y Cannot) (y : Y) → at_least k form ws (then x f) ≡ Ok y → (v : X) × ((x ≡ Ok v) × (f v ≡ Ok y))
 begun k form ws x f y h = then_ok x f y (unless (ltb (length ws) k) (TooFew form) (then x f) y h).1
 
-pub three_words : {Y : Type 0} (form : Form) (a b c : List ℕ) (ws : List (List ℕ)) (x : Result Y Cannot) (y : Y) → at_least 2 form (a ∷ b ∷ c ∷ ws) (at_most 2 form (a ∷ b ∷ c ∷ ws) x) ≡ Ok y → ⊥
-three_words form a b c ws x y h =
-    let n = length (a ∷ b ∷ c ∷ ws) in
-    let few = unless (ltb n 2) (TooFew form) (at_most 2 form (a ∷ b ∷ c ∷ ws) x) y h in
-    let many = unless (ltb 2 n) (TooMany form) x y few.1 in
-    omega (arith, ltb-false 2 n many.0)
+-- a line of more words than its form has asks for nothing
+pub crowded : {Y : Type 0} (least most : ℕ) (form : Form) (ws : List (List ℕ)) (x : Result Y Cannot) (y : Y) → most < length ws → at_least least form ws (at_most most form ws x) ≡ Ok y → ⊥
+crowded least most form ws x y more h =
+    let few = unless (ltb (length ws) least) (TooFew form) (at_most most form ws x) y h in
+    let many = unless (ltb most (length ws)) (TooMany form) x y few.1 in
+    omega (arith, ltb-false most (length ws) many.0)
 
 pub when : {Y : Type 0} (b : Bool) (e : Cannot) (v y : Y) → cond b (Ok v) (Err e) ≡ Ok y → (b ≡ true) × (v ≡ y)
 when true e v y h = (refl, cc)
@@ -77,6 +78,16 @@ address_parts e (Some bs) a h =
     let q = within_parts 3 5 (length bs) p.0 in
     (bs, (refl, (q.0, (q.1, p.1))))
 address_parts e None a h = never e a h
+
+-- 0 or 1
+pub bit_fits : (place : ℕ) (wanted : Wanted) (w : List ℕ) (n : ℕ) → decimal_of w ≡ Some n → n ≤ 1 → bit_of place wanted w ≡ Ok (eqb n 1)
+bit_fits place wanted w n is high = ap (λ x. then x (λ m. Ok (eqb m 1))) (number_fits 0 1 (Word place wanted) (decimal_of w) n is (omega arith) high)
+
+pub bit_parts : (place : ℕ) (wanted : Wanted) (w : List ℕ) (b : Bool) → bit_of place wanted w ≡ Ok b → (n : ℕ) × ((decimal_of w ≡ Some n) × ((n ≤ 1) × (eqb n 1 ≡ b)))
+bit_parts place wanted w b h =
+    let s = then_ok (number_in 0 1 (Word place wanted) (decimal_of w)) (λ m. Ok (eqb m 1)) b h in
+    let p = number_parts 0 1 (Word place wanted) (decimal_of w) s.0 s.1.0 in
+    (s.0, (p.0, (p.1.1, ok_same s.1.1)))
 
 -- ---- bytes
 
@@ -114,3 +125,16 @@ bytes_last ws at g q h =
 
 pub named : (w t : List ℕ) → bytes_eq w t ≡ true → w ≡ t
 named w t h = (bytes_eq-Decides w t).0 h
+
+-- ---- what the first word is, or is not
+
+chosen : (b : Bool) (o p : Option Form) (t w : List ℕ) (ws : List (List ℕ)) (q : Request) → bytes_eq w t ≡ b
+    → (line_as o (w ∷ ws) ≡ Ok q → Asks (t ∷ ws) q) → (line_as p (w ∷ ws) ≡ Ok q → Asks (w ∷ ws) q)
+    → line_as (cond b o p) (w ∷ ws) ≡ Ok q → Asks (w ∷ ws) q
+chosen true o p t w ws q is here other h = subst (λ x. Asks (x ∷ ws) q) (sym (named w t is)) (here h)
+chosen false o p t w ws q is here other h = other h
+
+pub choose : (o p : Option Form) (t w : List ℕ) (ws : List (List ℕ)) (q : Request)
+    → (line_as o (w ∷ ws) ≡ Ok q → Asks (t ∷ ws) q) → (line_as p (w ∷ ws) ≡ Ok q → Asks (w ∷ ws) q)
+    → line_as (cond (bytes_eq w t) o p) (w ∷ ws) ≡ Ok q → Asks (w ∷ ws) q
+choose o p t w ws q = chosen (bytes_eq w t) o p t w ws q refl

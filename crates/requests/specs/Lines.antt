@@ -10,12 +10,16 @@ use Rattle.requests.specs.declared.lines.Kind.TheVariants.{Crc8, Crc16}
 use Rattle.requests.specs.declared.lines.Form.{Form}
 use Rattle.requests.specs.declared.lines.Form.TheVariants as form
 use Rattle.requests.specs.declared.label.Label.{Label}
+use Rattle.requests.specs.declared.times.Times.{Times}
 use Rattle.requests.specs.declared.lines.Line.{Line}
 use Rattle.requests.specs.declared.lines.Line.TheVariants as line
 use Rattle.requests.specs.declared.lines.UnitLine.{UnitLine}
 use Rattle.requests.specs.declared.lines.UnitLine.TheVariants as unit_line
+use Rattle.requests.specs.declared.lines.UnitCall.{UnitCall}
+use Rattle.requests.specs.declared.lines.UnitCall.TheVariants as unit_call
 use Rattle.requests.specs.declared.lines.Cannot.{Cannot}
 use Rattle.requests.specs.declared.lines.Cannot.TheVariants.{Word, TooFew, TooMany, PayloadLength}
+use Rattle.requests.specs.declared.lines.Wanted.{Wanted}
 use Rattle.requests.specs.declared.lines.Wanted.TheVariants as want
 use Rattle.requests.specs.declared.lines.Stop.{Stop}
 use Rattle.requests.specs.declared.lines.Stop.TheVariants.{Cannot as Unable, Memory}
@@ -29,9 +33,17 @@ pub data UnitRequest : Type 0 where
   load : List ℕ → UnitRequest
   check : UnitRequest
   box : UnitRequest
-  irq : UnitRequest
+  -- the first bits of these bytes, to be heard
+  hear : (bits : ℕ) → List ℕ → UnitRequest
+
+-- what is asked of the unit of a number
+pub data Call : Type 0 where
   -- a host command, with a reply buffer of so many bytes
-  command : (room : ℕ) → List ℕ → UnitRequest
+  command : (room : ℕ) → List ℕ → Call
+  ce : (high : Bool) → Call
+  irq : Call
+  -- ticks, up to so many
+  tick : (times : ℕ) → Call
 
 pub data Request : Type 0 where
   -- the check of what follows
@@ -43,14 +55,23 @@ pub data Request : Type 0 where
   -- what a profile has for the register at an address
   field : (register : ℕ) → List ℕ → Request
   unit : (label : ℕ) → UnitRequest → Request
+  call : (unit : ℕ) → Call → Request
 
 abbrev pub asked_of : UnitLine → UnitRequest
 asked_of unit_line.Bench = bench
 asked_of (unit_line.Load p) = load (vec_items p)
 asked_of unit_line.Check = check
 asked_of unit_line.Box = box
-asked_of unit_line.Irq = irq
-asked_of (unit_line.Command room bs) = command room (vec_items bs)
+asked_of (unit_line.Hear n bs) = hear n (vec_items bs)
+
+abbrev pub count_of : Times → ℕ
+count_of t = t.count
+
+abbrev pub called : UnitCall → Call
+called (unit_call.Command room bs) = command room (vec_items bs)
+called (unit_call.Ce high) = ce high
+called unit_call.Irq = irq
+called (unit_call.Tick times) = tick (count_of times)
 
 abbrev pub place_of : Label → ℕ
 place_of l = l.place
@@ -61,6 +82,7 @@ asked (line.Pack f) = pack (packet_of f)
 asked (line.Read w n bs) = read (width_of w) n (vec_items bs)
 asked (line.Field r p) = field r (vec_items p)
 asked (line.Unit l u) = unit (place_of l) (asked_of u)
+asked (line.Call u c) = call u (called c)
 
 -- r is what x says
 abbrev pub Means : {X Y : Type 0} → (X → Y) → Result X Cannot → Result Y Cannot → Type 0
@@ -97,8 +119,11 @@ unit_form_named w =
     cond (bytes_eq w (codes "field")) (Some form.Field) (
     cond (bytes_eq w (codes "check")) (Some form.Check) (
     cond (bytes_eq w (codes "box")) (Some form.Box) (
+    cond (bytes_eq w (codes "command")) (Some form.Command) (
+    cond (bytes_eq w (codes "ce")) (Some form.Ce) (
     cond (bytes_eq w (codes "irq")) (Some form.Irq) (
-    cond (bytes_eq w (codes "command")) (Some form.Command) None))))))
+    cond (bytes_eq w (codes "tick")) (Some form.Tick) (
+    cond (bytes_eq w (codes "hear")) (Some form.Hear) None)))))))))
 
 abbrev pub form_named : List ℕ → Option Form
 form_named w =
@@ -125,8 +150,12 @@ number_in low high e None = Err e
 abbrev pub pid_of : List ℕ → Result ℕ Cannot
 pid_of w = number_in 0 3 (Word 3 want.Pid) (decimal_of w)
 
+-- 0 or 1
+abbrev pub bit_of : ℕ → Wanted → List ℕ → Result Bool Cannot
+bit_of place wanted w = then (number_in 0 1 (Word place wanted) (decimal_of w)) (λ n. Ok (n == 1))
+
 abbrev pub no_ack_of : List ℕ → Result Bool Cannot
-no_ack_of w = then (number_in 0 1 (Word 4 want.NoAck) (decimal_of w)) (λ n. Ok (n == 1))
+no_ack_of w = bit_of 4 want.NoAck w
 
 abbrev pub width_number : List ℕ → Result ℕ Cannot
 width_number w = number_in 3 5 (Word 2 want.Width) (decimal_of w)
@@ -136,6 +165,15 @@ bit_count w = number_in 0 65535 (Word 3 want.BitCount) (decimal_of w)
 
 abbrev pub label_of : List ℕ → Result ℕ Cannot
 label_of w = number_in 0 7 (Word 2 want.Label) (decimal_of w)
+
+abbrev pub unit_of : List ℕ → Result ℕ Cannot
+unit_of w = number_in 0 255 (Word 2 want.Unit) (decimal_of w)
+
+abbrev pub level_of : List ℕ → Result Bool Cannot
+level_of w = bit_of 3 want.Level w
+
+abbrev pub times_of : List ℕ → Result ℕ Cannot
+times_of w = number_in 1 65535 (Word 3 want.Times) (decimal_of w)
 
 abbrev pub register_of : List ℕ → Result ℕ Cannot
 register_of w = or_else (byte_of w) (Word 2 want.Register)
@@ -191,7 +229,7 @@ read_line ws =
     then (bit_count (word_at ws 2)) (λ n.
     then (bytes_at ws 3) (λ bs. Ok (read w n bs)))))
 
--- bench U, check U, box U, irq U
+-- bench U, check U, box U
 abbrev pub plain_line : Form → UnitRequest → List (List ℕ) → Result Request Cannot
 plain_line form q ws = at_least 2 form ws (at_most 2 form ws (then (label_of (word_at ws 1)) (λ u. Ok (unit u q))))
 
@@ -203,14 +241,38 @@ field_line ws = at_least 2 form.Field ws (then (register_of (word_at ws 1)) (λ 
 abbrev pub load_line : List (List ℕ) → Result Request Cannot
 load_line ws = at_least 2 form.Load ws (then (label_of (word_at ws 1)) (λ u. then (bytes_at ws 2) (λ p. Ok (unit u (load p)))))
 
+-- hear U BITS BYTES
+abbrev pub hear_line : List (List ℕ) → Result Request Cannot
+hear_line ws =
+    at_least 3 form.Hear ws
+    (then (label_of (word_at ws 1)) (λ u. then (bit_count (word_at ws 2)) (λ n. then (bytes_at ws 3) (λ bs. Ok (unit u (hear n bs))))))
+
 -- 33 bytes for the reply where the line says nothing of it
 abbrev pub command_with : List (List ℕ) → ℕ → Option ℕ → Result Request Cannot
-command_with ws u (Some room) = then (bytes_at ws 3) (λ bs. Ok (unit u (command room bs)))
-command_with ws u None = then (bytes_at ws 2) (λ bs. Ok (unit u (command 33 bs)))
+command_with ws u (Some room) = then (bytes_at ws 3) (λ bs. Ok (call u (command room bs)))
+command_with ws u None = then (bytes_at ws 2) (λ bs. Ok (call u (command 33 bs)))
 
 -- command U BYTES, command U /R BYTES
 abbrev pub command_line : List (List ℕ) → Result Request Cannot
-command_line ws = at_least 2 form.Command ws (then (label_of (word_at ws 1)) (λ u. then (room_of (word_at ws 2)) (command_with ws u)))
+command_line ws = at_least 2 form.Command ws (then (unit_of (word_at ws 1)) (λ u. then (room_of (word_at ws 2)) (command_with ws u)))
+
+-- ce U 0, ce U 1
+abbrev pub ce_line : List (List ℕ) → Result Request Cannot
+ce_line ws =
+    at_least 3 form.Ce ws (at_most 3 form.Ce ws (then (unit_of (word_at ws 1)) (λ u. then (level_of (word_at ws 2)) (λ b. Ok (call u (ce b))))))
+
+-- irq U
+abbrev pub irq_line : List (List ℕ) → Result Request Cannot
+irq_line ws = at_least 2 form.Irq ws (at_most 2 form.Irq ws (then (unit_of (word_at ws 1)) (λ u. Ok (call u irq))))
+
+-- one tick where the line says nothing of their number
+abbrev pub times_at : List (List ℕ) → Result ℕ Cannot
+times_at ws = cond (length ws == 2) (Ok 1) (times_of (word_at ws 2))
+
+-- tick U, tick U N
+abbrev pub tick_line : List (List ℕ) → Result Request Cannot
+tick_line ws =
+    at_least 2 form.Tick ws (at_most 3 form.Tick ws (then (unit_of (word_at ws 1)) (λ u. then (times_at ws) (λ n. Ok (call u (tick n))))))
 
 abbrev pub line_as : Option Form → List (List ℕ) → Result Request Cannot
 line_as (Some form.Kind) ws = kind_line ws
@@ -220,9 +282,12 @@ line_as (Some form.Field) ws = field_line ws
 line_as (Some form.Bench) ws = plain_line form.Bench bench ws
 line_as (Some form.Check) ws = plain_line form.Check check ws
 line_as (Some form.Box) ws = plain_line form.Box box ws
-line_as (Some form.Irq) ws = plain_line form.Irq irq ws
 line_as (Some form.Load) ws = load_line ws
+line_as (Some form.Hear) ws = hear_line ws
 line_as (Some form.Command) ws = command_line ws
+line_as (Some form.Ce) ws = ce_line ws
+line_as (Some form.Irq) ws = irq_line ws
+line_as (Some form.Tick) ws = tick_line ws
 line_as None ws = Err (Word 1 want.Form)
 
 -- what a line asks for, or why it cannot be carried out: of the reasons that apply the one that the leftmost word gives,

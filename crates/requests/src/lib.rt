@@ -1,12 +1,15 @@
 // What the lines of a script ask for.
 #![tactic(auto)]
 
+mod calls;
 mod label;
 mod limits;
 mod lines;
 mod reading;
+mod times;
 mod units;
 
 pub use label::Label;
-pub use lines::{Cannot, Form, Kind, Lack, Line, Stop, UnitLine, Wanted};
+pub use lines::{Cannot, Form, Kind, Lack, Line, Stop, UnitCall, UnitLine, Wanted};
 pub use reading::parse;
+pub use times::Times;

@@ -1,9 +1,9 @@
-// What the lines have in common: two words and no more, and a word that is a number.
+// What the lines have in common: two words and no more, and words that are numbers.
 ghost use Rattle.std.specs.Prelude.{◌≡◌, Ok};
 ghost use Rattle.words.specs.Split.{texts};
 ghost use Rattle.words.specs.Numbers.{decimal_of};
 ghost use Rattle.requests.specs.declared.lines.Cannot.TheVariants.{Word};
-ghost use Rattle.requests.specs.Lines.{at_least, at_most, word_at, Means, Makes};
+ghost use Rattle.requests.specs.Lines.{at_least, at_most, word_at, bit_of, bit_count, Means, Makes};
 
 use crate::lines::{Cannot, Form, Wanted};
 use words::decimal;
@@ -37,4 +37,22 @@ pub(crate) fn number<T, F: FnOnce(u64) -> Option<T>>(
     ensures { Makes (F.post make) (Word place wanted) (decimal_of word.now) result }
 {
     decimal(word).and_then(make).ok_or(unfit(place, wanted))
+}
+
+// 0 or 1.
+pub(crate) fn bit_of(word: &[u8], place: usize, wanted: Wanted) -> Result<bool, Cannot>
+    ensures { result ≡ bit_of place wanted word.now }
+{
+    number(word, place, wanted, |n| match n {
+        0 => Some(false),
+        1 => Some(true),
+        _ => None,
+    })
+}
+
+// How many bits, the third word.
+pub(crate) fn bit_count(word: &[u8]) -> Result<u16, Cannot>
+    ensures { result ≡ bit_count word.now }
+{
+    number(word, 3, Wanted::BitCount, |n| u16::try_from(n).ok())
 }

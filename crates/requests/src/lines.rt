@@ -4,6 +4,7 @@ ghost use Rattle.requests.specs.declared.lines.Stop.TheVariants.{Cannot as Unabl
 ghost use Rattle.requests.specs.Stops.{of_unread};
 
 use crate::label::Label;
+use crate::times::Times;
 use frames::{AddressWidth, Fields};
 use std::alloc::AllocError;
 use words::Unread;
@@ -34,6 +35,11 @@ pub enum Line {
         label: Label,
         line: UnitLine,
     },
+    // is for the unit of a number: of all numbers that a cell's calls can name, those of the labels name a unit here
+    Call {
+        unit: u8,
+        call: UnitCall,
+    },
 }
 
 // What a line asks of the unit under a label.
@@ -44,9 +50,20 @@ pub enum UnitLine {
     Load { profile: Vec<u8> },
     Check,
     Box,
-    Irq,
+    // hears the first bits of these bytes
+    Hear { bits: u16, bytes: Vec<u8> },
+}
+
+// What a line asks of the unit of a number.
+#[derive(Drop)]
+pub enum UnitCall {
     // a host command, with a reply buffer of so many bytes
     Command { room: u8, bytes: Vec<u8> },
+    // the level of its CE pin
+    Ce { high: bool },
+    Irq,
+    // ticks, up to so many
+    Tick { times: Times },
 }
 
 // The lines by their first word.
@@ -60,8 +77,11 @@ pub enum Form {
     Field,
     Check,
     Box,
-    Irq,
     Command,
+    Ce,
+    Irq,
+    Tick,
+    Hear,
 }
 
 // What a word is to be.
@@ -76,11 +96,14 @@ pub enum Wanted {
     BitCount,
     Byte,
     Label,
+    Unit,
     Register,
     Room,
+    Level,
+    Times,
 }
 
-// Why the unit under a label cannot do what a line asks of it.
+// Why a unit cannot do what a line asks of it.
 #[derive(Clone, Copy, Debug, PartialEq, Eq)]
 pub enum Lack {
     // there is none
@@ -89,18 +112,16 @@ pub enum Lack {
     IsBoxed,
     // it is on the bench, and the line is for a boxed unit
     OnBench,
-    // it is boxed, and the console hands no host commands on to a boxed unit yet
-    NoModes,
 }
 
-// Why a line cannot be carried out. A word is counted from 1, and of a label there is its place, which is only printed from here on.
+// Why a line cannot be carried out. A word is counted from 1; a unit is named by its number, of a label its place.
 #[derive(Clone, Copy, Debug, PartialEq, Eq)]
 pub enum Cannot {
     Word { word: usize, wanted: Wanted },
     TooFew(Form),
     TooMany(Form),
     PayloadLength,
-    Unit { label: u8, lack: Lack },
+    Unit { unit: u8, lack: Lack },
 }
 
 // Why a line goes no further: it cannot be carried out, or there is no memory, which ends the run.

@@ -3,12 +3,13 @@ ghost use Rattle.std.specs.Prelude.{◌≡◌, IfOk};
 ghost use Rattle.std.specs.Option.{option_map};
 ghost use Rattle.words.specs.Split.{texts};
 ghost use Rattle.frames.specs.Calls.{width_of, pid_number, address_bytes};
-ghost use Rattle.requests.specs.Lines.{form_named, kind_named, address_of, pid_of, no_ack_of, width_number, bit_count, kind_line, pack_line, read_line, line_of, asked, Means, Gives};
+ghost use Rattle.requests.specs.Lines.{form_named, kind_named, address_of, pid_of, width_number, kind_line, pack_line, read_line, line_of, asked, Means, Gives};
 ghost use Rattle.requests.specs.Grammar.{Settled};
 
-use crate::limits::{number, second_of_two, unfit};
+use crate::calls::{ce_line, command_line, irq_line, tick_line};
+use crate::limits::{bit_count, bit_of, number, second_of_two, unfit};
 use crate::lines::{Cannot, Form, Kind, Line, Stop, UnitLine, Wanted};
-use crate::units::{command_line, field_line, load_line, plain_line};
+use crate::units::{field_line, hear_line, load_line, plain_line};
 use frames::{Address, AddressWidth, Fields, Payload, Pid};
 use std::alloc::{AllocError, Global};
 use words::{bytes, reversed, together};
@@ -25,8 +26,11 @@ fn form_of(word: &[u8]) -> Option<Form>
         b"field" => Some(Form::Field),
         b"check" => Some(Form::Check),
         b"box" => Some(Form::Box),
-        b"irq" => Some(Form::Irq),
         b"command" => Some(Form::Command),
+        b"ce" => Some(Form::Ce),
+        b"irq" => Some(Form::Irq),
+        b"tick" => Some(Form::Tick),
+        b"hear" => Some(Form::Hear),
         _ => None,
     }
 }
@@ -60,28 +64,12 @@ fn pid_of(word: &[u8]) -> Result<Pid, Cannot>
     })
 }
 
-fn no_ack_of(word: &[u8]) -> Result<bool, Cannot>
-    ensures { result ≡ no_ack_of word.now }
-{
-    number(word, 4, Wanted::NoAck, |n| match n {
-        0 => Some(false),
-        1 => Some(true),
-        _ => None,
-    })
-}
-
 fn width_of(word: &[u8]) -> Result<AddressWidth, Cannot>
     ensures { Means width_of result (width_number word.now) }
 {
     number(word, 2, Wanted::Width, |n| {
         AddressWidth::try_from(usize::try_from(n).ok()?).ok()
     })
-}
-
-fn bits_of(word: &[u8]) -> Result<u16, Cannot>
-    ensures { result ≡ bit_count word.now }
-{
-    number(word, 3, Wanted::BitCount, |n| u16::try_from(n).ok())
 }
 
 fn kind_line(words: &[&[u8]]) -> Result<Line, Stop>
@@ -99,7 +87,7 @@ fn pack_line(heap: Global, words: &[&[u8]]) -> Result<Line, Stop>
     };
     let address = address_of(heap, address)?.ok_or(unfit(2, Wanted::Address))?;
     let pid = pid_of(pid)?;
-    let no_ack = no_ack_of(no_ack)?;
+    let no_ack = bit_of(no_ack, 4, Wanted::NoAck)?;
     let given = bytes(heap, words, 4)?;
     let payload = Payload::new(&given).ok_or(Cannot::PayloadLength)?;
     Ok(Line::Pack(Fields {
@@ -117,7 +105,7 @@ fn read_line(heap: Global, words: &[&[u8]]) -> Result<Line, Stop>
         return Err(Cannot::TooFew(Form::Read).into());
     };
     let width = width_of(width)?;
-    let bits = bits_of(bits)?;
+    let bits = bit_count(bits)?;
     let bytes = bytes(heap, words, 3)?;
     Ok(Line::Read { width, bits, bytes })
 }
@@ -140,9 +128,12 @@ fn words_line(heap: Global, words: &[&[u8]]) -> Result<Line, Stop>
         Form::Bench => plain_line(words, form, UnitLine::Bench),
         Form::Check => plain_line(words, form, UnitLine::Check),
         Form::Box => plain_line(words, form, UnitLine::Box),
-        Form::Irq => plain_line(words, form, UnitLine::Irq),
         Form::Load => load_line(heap, words),
+        Form::Hear => hear_line(heap, words),
         Form::Command => command_line(heap, words),
+        Form::Ce => ce_line(words),
+        Form::Irq => irq_line(words),
+        Form::Tick => tick_line(words),
     }
 }
 

@@ -1,16 +1,13 @@
-// The lines for units and profiles.
+// The lines for units under their labels, and for profiles.
 ghost use Rattle.std.specs.Prelude.{◌≡◌};
 ghost use Rattle.words.specs.Split.{texts};
-ghost use Rattle.requests.specs.Lines.{place_of, label_of, register_of, room_of, word_at, plain_line, field_line, load_line, command_line, asked, asked_of, Means, Gives};
+ghost use Rattle.requests.specs.Lines.{place_of, label_of, register_of, plain_line, field_line, load_line, hear_line, asked, asked_of, Means, Gives};
 
 use crate::label::Label;
-use crate::limits::{number, second_of_two, unfit};
+use crate::limits::{bit_count, number, second_of_two, unfit};
 use crate::lines::{Cannot, Form, Line, Stop, UnitLine, Wanted};
 use std::alloc::Global;
 use words::{byte, bytes};
-
-// The reply buffer of a host command where the line says nothing of it: room for STATUS and 32 bytes.
-const USUAL_ROOM: u8 = 33;
 
 fn label_of(word: &[u8]) -> Result<Label, Cannot>
     ensures { Means place_of result (label_of word.now) }
@@ -24,19 +21,7 @@ fn register_of(word: &[u8]) -> Result<u8, Cannot>
     byte(word).ok_or(unfit(2, Wanted::Register))
 }
 
-// The room for the reply, where the word behind the label says it: /R.
-fn room_of(words: &[&[u8]]) -> Result<Option<u8>, Cannot>
-    ensures { result ≡ room_of (word_at (texts words.now) 2) }
-{
-    match words {
-        [_, _, [b'/', digits @ ..], ..] => {
-            number(digits, 3, Wanted::Room, |n| u8::try_from(n).ok()).map(Some)
-        }
-        _ => Ok(None),
-    }
-}
-
-// A line of two words, the second of which names a unit.
+// A line of two words, the second of which is a label.
 pub(crate) fn plain_line(words: &[&[u8]], form: Form, line: UnitLine) -> Result<Line, Stop>
     ensures { Gives asked result (plain_line form (asked_of line) (texts words.now)) }
 {
@@ -69,17 +54,17 @@ pub(crate) fn load_line(heap: Global, words: &[&[u8]]) -> Result<Line, Stop>
     })
 }
 
-pub(crate) fn command_line(heap: Global, words: &[&[u8]]) -> Result<Line, Stop>
-    ensures { Gives asked result (command_line (texts words.now)) }
+pub(crate) fn hear_line(heap: Global, words: &[&[u8]]) -> Result<Line, Stop>
+    ensures { Gives asked result (hear_line (texts words.now)) }
 {
-    let [_, label, ..] = words else {
-        return Err(Cannot::TooFew(Form::Command).into());
+    let [_, label, bits, ..] = words else {
+        return Err(Cannot::TooFew(Form::Hear).into());
     };
     let label = label_of(label)?;
-    let (room, from) = room_of(words)?.map_or((USUAL_ROOM, 2), |room| (room, 3));
-    let bytes = bytes(heap, words, from)?;
+    let bits = bit_count(bits)?;
+    let bytes = bytes(heap, words, 3)?;
     Ok(Line::Unit {
         label,
-        line: UnitLine::Command { room, bytes },
+        line: UnitLine::Hear { bits, bytes },
     })
 }

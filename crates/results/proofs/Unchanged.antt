@@ -5,11 +5,11 @@ use Rattle.frames.specs.Packet.{Packet, reading}
 use Rattle.commands.specs.declared.refusal.Refusal.{Refusal}
 use Rattle.profile.specs.Profile.{if_sound, field_of}
 use Rattle.requests.specs.declared.lines.Lack.{Lack}
-use Rattle.requests.specs.Lines.{Request, kind, pack, read, field, unit}
+use Rattle.requests.specs.Lines.{Request, kind, pack, read, field, unit, call}
 use Rattle.desk.specs.declared.slot.Units.{Units}
-use Rattle.desk.specs.Slots.{Said}
-use Rattle.desk.specs.Desks.{kind_of, units_after, units_said, KeptUnlessDone}
-use Rattle.desk.proofs.Kept.{units_kept}
+use Rattle.desk.specs.Answers.{Said}
+use Rattle.desk.specs.Desks.{kind_of, units_after, units_said, units_called, units_answer, KeptUnlessDone}
+use Rattle.desk.proofs.Kept.{units_kept, units_called_kept}
 use Rattle.results.specs.Outcomes.{check_width, check_meaning, refused, found, found_field, unit_outcome, carried, units_after_request, Kept}
 
 read_kept : (b : Bool) (o : Option Packet) (us : Units) → Kept (Ok (cond b (found o) (refused 18))) us us
@@ -22,9 +22,9 @@ field_kept (Ok (Some bytes)) us = refl
 field_kept (Ok None) us = refl
 field_kept (Err e) us = refl
 
-unit_kept : (label : ℕ) (r : Result Said Lack) (before after : Units) → KeptUnlessDone r before after → Kept (unit_outcome label r) before after
-unit_kept label (Ok s) before after h = h
-unit_kept label (Err lack) before after h = h
+unit_kept : (u : ℕ) (r : Result Said Lack) (before after : Units) → KeptUnlessDone r before after → Kept (unit_outcome u r) before after
+unit_kept u (Ok s) before after h = h
+unit_kept u (Err lack) before after h = h
 
 pub carried_kept : (us : Units) (q : Request) → Kept (carried us q) us (units_after_request us q)
 carried_kept us (kind named) = tt
@@ -32,3 +32,4 @@ carried_kept us (pack p) = refl
 carried_kept us (read width n bytes) = read_kept (leb n (8 * length bytes)) (reading (check_width (kind_of us)) (check_meaning (kind_of us)) width (take n (bits bytes))) us
 carried_kept us (field r p) = field_kept (if_sound p (field_of p r)) us
 carried_kept us (unit label q) = unit_kept label (units_said us label q) us (units_after us label q) (units_kept us label q)
+carried_kept us (call u c) = unit_kept u (units_answer us u c) us (units_called us u c) (units_called_kept us u c)

@@ -1,8 +1,8 @@
 -- What carrying out a line gives.
-use Rattle.std.specs.Prelude.{◌≡◌, ℕ, ◌*◌, Bool, cond, List, length, take, replicate, Some, None, Ok, Err, Option, Result, nat_le}
+use Rattle.std.specs.Prelude.{◌≡◌, ℕ, ◌*◌, Bool, cond, List, length, take, Some, None, Ok, Err, Option, Result, nat_le}
 use Rattle.checks.specs.Bits.{bits}
 use Rattle.checks.specs.Crc.{crc8, crc16}
-use Rattle.frames.specs.Packet.{Packet, frame_bits, buffer_after, reading}
+use Rattle.frames.specs.Packet.{Packet, frame_bits, reading}
 use Rattle.frames.specs.Calls.{packet_of, refusal_number}
 use Rattle.requests.specs.declared.lines.Kind.{Kind}
 use Rattle.requests.specs.declared.lines.Kind.TheVariants.{Crc8, Crc16}
@@ -11,12 +11,14 @@ use Rattle.results.specs.declared.carrying.Answer.TheVariants as answer
 use Rattle.requests.specs.declared.lines.Lack.{Lack}
 use Rattle.requests.specs.declared.lines.Cannot.{Cannot}
 use Rattle.requests.specs.declared.lines.Cannot.TheVariants.{Unit as Unable}
-use Rattle.requests.specs.Lines.{Request, kind, pack, read, field, unit}
+use Rattle.requests.specs.Lines.{Request, kind, pack, read, field, unit, call}
 use Rattle.commands.specs.declared.refusal.Refusal.{Refusal}
 use Rattle.profile.specs.Profile.{if_sound, field_of}
 use Rattle.desk.specs.declared.slot.Units.{Units}
-use Rattle.desk.specs.Slots.{Said, said_of, refused as unit_refused}
-use Rattle.desk.specs.Desks.{kind_of, no_units, units_after, units_said, KeptUnlessDone}
+use Rattle.desk.specs.declared.answer.Frame.{Frame}
+use Rattle.desk.specs.Answers.{Said, said_of, refused as unit_refused}
+use Rattle.desk.specs.Boxed.{frame_of}
+use Rattle.desk.specs.Desks.{kind_of, no_units, units_after, units_said, units_called, units_answer, KeptUnlessDone}
 
 abbrev pub check_width : Kind → ℕ
 check_width Crc8 = 8
@@ -30,8 +32,8 @@ check_meaning Crc16 = crc16
 
 pub data Outcome : Type 0 where
   done : Outcome
-  -- a frame of so many bits, at the front of a buffer
-  frame : (bits : ℕ) (buffer : List ℕ) → Outcome
+  -- a frame that was packed
+  frame : Frame → Outcome
   -- what was read
   heard : Packet → Outcome
   nothing : Outcome
@@ -45,7 +47,7 @@ pub data Outcome : Type 0 where
 
 abbrev pub outcome_of : Answer → Outcome
 outcome_of answer.Done = done
-outcome_of (answer.Frame n buffer) = frame n buffer
+outcome_of (answer.Frame x) = frame x
 outcome_of (answer.Read (Ok (Some h))) = heard (packet_of h.fields)
 outcome_of (answer.Read (Ok None)) = nothing
 outcome_of (answer.Read (Err e)) = refused (refusal_number e)
@@ -54,9 +56,8 @@ outcome_of (answer.Field (Ok None)) = absent
 outcome_of (answer.Field (Err e)) = said (unit_refused e)
 outcome_of (answer.Unit r) = said (said_of r)
 
--- the frame in a buffer of zeros, the longest frame long
 abbrev pub pack_outcome : Kind → Packet → Outcome
-pack_outcome k p = frame (length (frame_bits (check_width k) (check_meaning k) p)) (buffer_after (frame_bits (check_width k) (check_meaning k) p) (replicate 42 0))
+pack_outcome k p = frame (frame_of (frame_bits (check_width k) (check_meaning k) p))
 
 abbrev pub found : Option Packet → Outcome
 found (Some p) = heard p
@@ -77,8 +78,8 @@ field_outcome r p = found_field (if_sound p (field_of p r))
 
 -- what a unit lacks is why the line cannot be carried out
 abbrev pub unit_outcome : ℕ → Result Said Lack → Result Outcome Cannot
-unit_outcome label (Ok s) = Ok (said s)
-unit_outcome label (Err lack) = Err (Unable label lack)
+unit_outcome u (Ok s) = Ok (said s)
+unit_outcome u (Err lack) = Err (Unable u lack)
 
 -- what a line gives with the units as they are and the check in force
 abbrev pub carried : Units → Request → Result Outcome Cannot
@@ -87,6 +88,7 @@ carried us (pack p) = Ok (pack_outcome (kind_of us) p)
 carried us (read width n bytes) = Ok (read_outcome (kind_of us) width n bytes)
 carried us (field r p) = Ok (field_outcome r p)
 carried us (unit label q) = unit_outcome label (units_said us label q)
+carried us (call u c) = unit_outcome u (units_answer us u c)
 
 -- the units after it: another check drops them all
 abbrev pub units_after_request : Units → Request → Units
@@ -95,12 +97,13 @@ units_after_request us (pack p) = us
 units_after_request us (read width n bytes) = us
 units_after_request us (field r p) = us
 units_after_request us (unit label q) = units_after us label q
+units_after_request us (call u c) = units_called us u c
 
 -- a line that cannot be carried out changes nothing, nor does a refusal, nor what only looks
 abbrev pub Kept : Result Outcome Cannot → Units → Units → Type 0
 Kept (Err e) before after = after ≡ before
 Kept (Ok done) before after = Unit {0}
-Kept (Ok (frame n buffer)) before after = after ≡ before
+Kept (Ok (frame x)) before after = after ≡ before
 Kept (Ok (heard p)) before after = after ≡ before
 Kept (Ok nothing) before after = after ≡ before
 Kept (Ok (refused n)) before after = after ≡ before

@@ -1,5 +1,5 @@
 -- The texts of results.
-use Rattle.std.specs.Prelude.{ℕ, ◌+◌, ◌/◌, Bool, true, false, List, ◌++◌, reverse, take, codes}
+use Rattle.std.specs.Prelude.{ℕ, Bool, true, false, List, ◌++◌, reverse, codes}
 use Rattle.words.specs.Numbers.{bytes_shown, digits_shown, decimal_shown}
 use Rattle.frames.specs.Packet.{Packet}
 use Rattle.requests.specs.declared.lines.Form.{Form}
@@ -9,11 +9,8 @@ use Rattle.requests.specs.declared.lines.Cannot.TheVariants.{Word, TooFew, TooMa
 use Rattle.requests.specs.declared.lines.Wanted.{Wanted}
 use Rattle.requests.specs.declared.lines.Wanted.TheVariants as want
 use Rattle.results.specs.Outcomes.{Outcome, done, frame, heard, nothing, refused, looked_up, absent, said}
-use Rattle.answers.specs.Texts.{said_text, lack_text}
-
--- the bit count, and as many bytes as the bits fill
-abbrev pub frame_text : ℕ → List ℕ → List ℕ
-frame_text bits buffer = codes "ok frame " ++ (decimal_shown bits ++ bytes_shown (take ((bits + 7) / 8) buffer))
+use Rattle.desk.specs.declared.answer.Frame.{Frame}
+use Rattle.answers.specs.Texts.{frame_text, said_text, lack_text}
 
 abbrev pub no_ack_text : Bool → List ℕ
 no_ack_text true = codes " 1"
@@ -30,9 +27,12 @@ refusal_text n = codes "refused " ++ (decimal_shown n ++ codes " (bits beyond th
 abbrev pub field_text : List ℕ → List ℕ
 field_text bytes = codes "ok" ++ bytes_shown bytes
 
+abbrev pub packed_text : Frame → List ℕ
+packed_text x = codes "ok " ++ frame_text x
+
 abbrev pub result_text : Outcome → List ℕ
 result_text done = codes "ok"
-result_text (frame bits buffer) = frame_text bits buffer
+result_text (frame x) = packed_text x
 result_text (heard p) = packet_text p
 result_text nothing = codes "ok nothing"
 result_text (refused n) = refusal_text n
@@ -51,11 +51,14 @@ usage_text form.Load = codes "load U BYTES"
 usage_text form.Field = codes "field RR BYTES"
 usage_text form.Check = codes "check U"
 usage_text form.Box = codes "box U"
-usage_text form.Irq = codes "irq U"
 usage_text form.Command = codes "command U BYTES or command U /R BYTES"
+usage_text form.Ce = codes "ce U 0 or ce U 1"
+usage_text form.Irq = codes "irq U"
+usage_text form.Tick = codes "tick U or tick U N"
+usage_text form.Hear = codes "hear U BITS BYTES"
 
 abbrev pub wanted_text : Wanted → List ℕ
-wanted_text want.Form = codes "a line begins with kind, pack, read, bench, load, field, check, box, irq or command"
+wanted_text want.Form = codes "a line begins with kind, pack, read, bench, load, field, check, box, command, ce, irq, tick or hear"
 wanted_text want.Kind = codes "a kind is crc8 or crc16"
 wanted_text want.Address = codes "an address is 3 to 5 bytes, 6, 8 or 10 hexadecimal digits together"
 wanted_text want.Pid = codes "a PID is 0 to 3"
@@ -64,8 +67,11 @@ wanted_text want.Width = codes "an address is 3 to 5 bytes wide"
 wanted_text want.BitCount = codes "a bit count is 0 to 65535"
 wanted_text want.Byte = codes "a byte is two hexadecimal digits"
 wanted_text want.Label = codes "a unit is 0 to 7"
+wanted_text want.Unit = codes "the number of a unit is 0 to 255"
 wanted_text want.Register = codes "a register is two hexadecimal digits"
 wanted_text want.Room = codes "a reply buffer is /0 to /255"
+wanted_text want.Level = codes "a level is 0 or 1"
+wanted_text want.Times = codes "a count of ticks is 1 to 65535"
 
 abbrev pub word_text : ℕ → Wanted → List ℕ
 word_text word wanted = codes "word " ++ (decimal_shown word ++ (codes ": " ++ wanted_text wanted))
@@ -75,7 +81,7 @@ why_text (Word word wanted) = word_text word wanted
 why_text (TooFew form) = codes "too few words: " ++ usage_text form
 why_text (TooMany form) = codes "too many words: " ++ usage_text form
 why_text PayloadLength = codes "over 32 payload bytes"
-why_text (Unable label lack) = lack_text label lack
+why_text (Unable u lack) = lack_text u lack
 
 abbrev pub cannot_text : Cannot → List ℕ
 cannot_text cannot = codes "cannot (" ++ (why_text cannot ++ codes ")")

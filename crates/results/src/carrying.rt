@@ -5,7 +5,7 @@ ghost use Rattle.requests.specs.Lines.{asked, Means};
 ghost use Rattle.results.specs.Outcomes.{check_width, check_meaning, outcome_of, pack_outcome, read_outcome, field_outcome, carried, units_after_request, Kept};
 
 use checks::{Crc8, Crc16};
-use desk::{UnitResult, Units};
+use desk::{Frame, UnitResult, Units};
 use frames::{AddressWidth, Fields, Heard, pack, read};
 use requests::{Cannot, Kind, Line};
 
@@ -13,9 +13,8 @@ use requests::{Cannot, Kind, Line};
 #[derive(Drop)]
 pub enum Answer<'a> {
     Done,
-    // A frame of so many bits, at the front of a buffer. Its bytes would not tell how many bits it has, so a Vec or an ArrayVec
-    // would stand beside the bit count too; and a Vec would make packing fail for want of memory.
-    Frame { bits: usize, buffer: [u8; 42] },
+    // a frame that was packed
+    Frame(Frame),
     // what a reader finds, if it finds a packet
     Read(Result<Option<Heard>, frames::Refusal>),
     // what a profile has for a register, if it has anything
@@ -60,7 +59,7 @@ fn packed<'a>(kind: Kind, fields: &Fields) -> Answer<'a>
 {
     let mut buffer = [0; 42];
     let bits = pack_as(kind, fields, &mut buffer).unwrap();
-    Answer::Frame { bits, buffer }
+    Answer::Frame(Frame { bits, buffer })
 }
 
 // Apart from `carry_out`, so that what stays as it was follows from one promise and not once for each line.
@@ -87,11 +86,17 @@ fn done_with<'a>(units: &mut Units, line: &'a Line) -> Result<Answer<'a>, Cannot
             Ok(Answer::Field(profile::field(profile, *register)))
         }
         Line::Unit { label, line } => {
-            let label = *label;
-            let result = units.call(label, line).map_err(|lack| Cannot::Unit {
-                label: label.place,
-                lack,
-            });
+            let unit = label.place;
+            let result = units
+                .carry_out(*label, line)
+                .map_err(|lack| Cannot::Unit { unit, lack });
+            Ok(Answer::Unit(result?))
+        }
+        Line::Call { unit, call } => {
+            let unit = *unit;
+            let result = units
+                .call(unit, call)
+                .map_err(|lack| Cannot::Unit { unit, lack });
             Ok(Answer::Unit(result?))
         }
     }

@@ -2,10 +2,10 @@
 ghost use Rattle.std.specs.Prelude.{◌≡◌, Some};
 ghost use Rattle.frames.specs.Calls.{packet_of};
 ghost use Rattle.results.specs.Outcomes.{outcome_of};
-ghost use Rattle.results.specs.Texts.{packet_text, frame_text, result_text, usage_text, wanted_text, cannot_text};
+ghost use Rattle.results.specs.Texts.{packet_text, result_text, usage_text, wanted_text, cannot_text};
 
 use crate::carrying::Answer;
-use answers::{Lacking, Refused, Said, front};
+use answers::{Framed, Lacking, Refused, Said};
 use frames::Fields;
 use requests::{Cannot, Form, Wanted};
 use std::fmt;
@@ -37,13 +37,7 @@ impl fmt::Display for Answer<'_> {
     fn fmt<W: fmt::Write>(&self, f: &mut fmt::Formatter<W>) -> fmt::Result {
         match self {
             Answer::Done => f.write_str("ok"),
-            Answer::Frame { bits, buffer } => {
-                write!(
-                    f,
-                    "ok frame {bits}{}",
-                    Apart(front(buffer, bits.div_ceil(8)))
-                )
-            }
+            Answer::Frame(frame) => write!(f, "ok {}", Framed(frame)),
             Answer::Read(Ok(Some(heard))) => write!(f, "{}", Packet(&heard.fields)),
             Answer::Read(Ok(None)) => f.write_str("ok nothing"),
             Answer::Read(Err(refusal)) => write!(f, "refused {} ({refusal})", refusal.number()),
@@ -69,8 +63,11 @@ fn usage(form: Form) -> &'static str
         Form::Field => "field RR BYTES",
         Form::Check => "check U",
         Form::Box => "box U",
-        Form::Irq => "irq U",
         Form::Command => "command U BYTES or command U /R BYTES",
+        Form::Ce => "ce U 0 or ce U 1",
+        Form::Irq => "irq U",
+        Form::Tick => "tick U or tick U N",
+        Form::Hear => "hear U BITS BYTES",
     }
 }
 
@@ -80,7 +77,7 @@ fn wish(wanted: Wanted) -> &'static str
 {
     match wanted {
         Wanted::Form =>
-            "a line begins with kind, pack, read, bench, load, field, check, box, irq or command",
+            "a line begins with kind, pack, read, bench, load, field, check, box, command, ce, irq, tick or hear",
         Wanted::Kind => "a kind is crc8 or crc16",
         Wanted::Address => "an address is 3 to 5 bytes, 6, 8 or 10 hexadecimal digits together",
         Wanted::Pid => "a PID is 0 to 3",
@@ -89,8 +86,11 @@ fn wish(wanted: Wanted) -> &'static str
         Wanted::BitCount => "a bit count is 0 to 65535",
         Wanted::Byte => "a byte is two hexadecimal digits",
         Wanted::Label => "a unit is 0 to 7",
+        Wanted::Unit => "the number of a unit is 0 to 255",
         Wanted::Register => "a register is two hexadecimal digits",
         Wanted::Room => "a reply buffer is /0 to /255",
+        Wanted::Level => "a level is 0 or 1",
+        Wanted::Times => "a count of ticks is 1 to 65535",
     }
 }
 
@@ -107,7 +107,7 @@ impl fmt::Display for Unable {
             Cannot::TooFew(form) => write!(f, "cannot (too few words: {})", usage(form)),
             Cannot::TooMany(form) => write!(f, "cannot (too many words: {})", usage(form)),
             Cannot::PayloadLength => f.write_str("cannot (over 32 payload bytes)"),
-            Cannot::Unit { label, lack } => write!(f, "cannot ({})", Lacking { label, lack }),
+            Cannot::Unit { unit, lack } => write!(f, "cannot ({})", Lacking { unit, lack }),
         }
     }
 }

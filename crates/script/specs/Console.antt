@@ -5,7 +5,7 @@ use Rattle.requests.specs.declared.lines.Kind.{Kind}
 use Rattle.requests.specs.declared.lines.Kind.TheVariants.{Crc16}
 use Rattle.requests.specs.declared.lines.Cannot.{Cannot}
 use Rattle.script.specs.declared.running.Console.{Console}
-use Rattle.requests.specs.Lines.{UnitRequest, bench, load, check, box, irq, command, Request, kind, pack, read, field, unit, line_of}
+use Rattle.requests.specs.Lines.{UnitRequest, bench, load, check, box, hear, Request, kind, pack, read, field, unit, call, line_of}
 use Rattle.desk.specs.declared.slot.Units.{Units}
 use Rattle.desk.specs.Desks.{kind_of, no_units}
 use Rattle.answers.specs.Profiles.{profile_rows}
@@ -24,12 +24,11 @@ unit_explained bench = []
 unit_explained (load p) = profile_rows p
 unit_explained check = []
 unit_explained box = []
-unit_explained irq = []
-unit_explained (command room bytes) = []
+unit_explained (hear n bytes) = []
 
 abbrev pub explained : Kind → Request → Outcome → List ℕ
 explained k (kind named) o = []
-explained k (pack p) (frame n buffer) = rows_found k (length p.address) n buffer
+explained k (pack p) (frame x) = rows_found k (length p.address) x.bits x.buffer
 explained k (pack p) done = []
 explained k (pack p) (heard q) = []
 explained k (pack p) nothing = []
@@ -40,6 +39,7 @@ explained k (pack p) (said s) = []
 explained k (read width n bytes) o = rows_found k width n bytes
 explained k (field r p) o = profile_rows p
 explained k (unit label q) o = unit_explained q
+explained k (call u c) o = []
 
 abbrev pub answer_text : Kind → Request → Outcome → List ℕ
 answer_text k q o = result_text o ++ (codes "\n" ++ explained k q o)

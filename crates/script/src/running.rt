@@ -28,11 +28,11 @@ impl fmt::Display for Explained<'_> {
     fn fmt<W: fmt::Write>(&self, f: &mut fmt::Formatter<W>) -> fmt::Result {
         let kind = self.kind;
         match (self.line, self.answer) {
-            (Line::Pack(fields), Answer::Frame { bits, buffer }) => {
+            (Line::Pack(fields), Answer::Frame(frame)) => {
                 let reading = Reading {
                     kind,
-                    frame: buffer,
-                    count: *bits,
+                    frame: &frame.buffer,
+                    count: frame.bits,
                     width: fields.address.width(),
                 };
                 write!(f, "{reading}")

@@ -3,10 +3,8 @@
 
 #[cfg(test)]
 mod tests {
-    use script::{Console, Halt, feed};
+    use script::{Console, feed};
     use std::alloc::Global;
-    use std::io;
-    use std::io::{ErrorKind, Read, Write};
     use std::process::Abort;
 
     // Feeds a script to a new console, and compares what it writes and how many lines could not be carried out.
@@ -23,7 +21,7 @@ mod tests {
     fn first_words(rt: HostRuntime) {
         let heap = rt.alloc();
         let why: &[u8] =
-            b"1: cannot (word 1: a line begins with kind, pack, read, bench, load, field, check, box, irq or command)\n";
+            b"1: cannot (word 1: a line begins with kind, pack, read, bench, load, field, check, box, command, ce, irq, tick or hear)\n";
         gives(&rt, heap, b"foo 1\n", why, 1);
         gives(&rt, heap, b"\xff\xfe\x00\n", why, 1);
         gives(&rt, heap, b"PACK E7E7E7 0 0\n", why, 1);
@@ -220,7 +218,13 @@ mod tests {
         );
         gives(&rt, heap, b"bench 8\n", label, 1);
         gives(&rt, heap, b"load x 00\n", label, 1);
-        gives(&rt, heap, b"command /3 04\n", label, 1);
+        gives(
+            &rt,
+            heap,
+            b"command /3 04\n",
+            b"1: cannot (word 2: the number of a unit is 0 to 255)\n",
+            1,
+        );
         gives(&rt, heap, b"command 0 /256 04\n", room, 1);
         gives(&rt, heap, b"command 0 /\n", room, 1);
         gives(
@@ -240,22 +244,22 @@ mod tests {
             &rt,
             heap,
             b"load 3\ncheck 3\nbox 3\nirq 3\ncommand 3 04\n",
-            b"1: cannot (unit 3 is not there; a line bench makes it)\n2: cannot (unit 3 is not there; a line bench makes it)\n3: cannot (unit 3 is not there; a line bench makes it)\n4: cannot (unit 3 is not there; a line bench makes it)\n5: cannot (unit 3 is not there; a line bench makes it)\n",
+            b"1: cannot (unit 3 is not there; a line bench makes one, 0 to 7)\n2: cannot (unit 3 is not there; a line bench makes one, 0 to 7)\n3: cannot (unit 3 is not there; a line bench makes one, 0 to 7)\n4: cannot (unit 3 is not there; a line bench makes one, 0 to 7)\n5: cannot (unit 3 is not there; a line bench makes one, 0 to 7)\n",
             5,
         );
         gives(
             &rt,
             heap,
             b"bench 7\nirq 7\nbox 7\nload 7\ncheck 7\nbox 7\ncommand 7 04\nirq 7\n",
-            b"1: ok\n2: cannot (unit 7 is on the bench; the line is for a boxed unit)\n3: ok\n4: cannot (unit 7 is boxed; the line is for a unit on the bench)\n5: cannot (unit 7 is boxed; the line is for a unit on the bench)\n6: cannot (unit 7 is boxed; the line is for a unit on the bench)\n7: cannot (unit 7 is boxed; host commands of a boxed unit come with the unit's modes)\n8: ok high\n",
-            5,
+            b"1: ok\n2: cannot (unit 7 is on the bench; the line is for a boxed unit)\n3: ok\n4: cannot (unit 7 is boxed; the line is for a unit on the bench)\n5: cannot (unit 7 is boxed; the line is for a unit on the bench)\n6: cannot (unit 7 is boxed; the line is for a unit on the bench)\n7: refused 12 00 (the check finds a fault in CONFIG)\n8: ok high\n",
+            4,
         );
         // a kind drops all units, and bench puts a new unit in the place of another
         gives(
             &rt,
             heap,
             b"bench 0\nkind crc8\ncheck 0\nbench 0\ncommand 0 25 01\nbench 0\ncommand 0 05\n",
-            b"1: ok\n2: ok\n3: cannot (unit 0 is not there; a line bench makes it)\n4: ok\n5: ok 0E\n6: ok\n7: ok 0E 02\n",
+            b"1: ok\n2: ok\n3: cannot (unit 0 is not there; a line bench makes one, 0 to 7)\n4: ok\n5: ok 0E\n6: ok\n7: ok 0E 02\n",
             1,
         );
     }
@@ -299,90 +303,116 @@ mod tests {
         );
     }
 
-    // Gives its bytes one at a time, each after an interruption, and then fails.
-    #[derive(Drop)]
-    struct Broken<'a> {
-        rest: &'a [u8],
-        interrupted: bool,
-    }
-
-    impl Read for Broken<'_> {
-        fn read(&mut self, buf: &mut [u8]) -> io::Result<usize> {
-            self.interrupted = !self.interrupted;
-            if self.interrupted {
-                return Err(ErrorKind::Interrupted.into());
-            }
-            let Some((first, rest)) = self.rest.split_first() else {
-                return Err(ErrorKind::BrokenPipe.into());
-            };
-            let Some(place) = buf.first_mut() else {
-                return Ok(0);
-            };
-            *place = *first;
-            self.rest = rest;
-            Ok(1)
-        }
-    }
-
-    // Where the input fails, the whole lines before that are taken and written, and the begun one is not.
+    // Words of the lines for boxed units.
     #[test]
-    fn broken_input(rt: HostRuntime) {
+    fn call_words(rt: HostRuntime) {
         let heap = rt.alloc();
-        let mut console = Console::new();
-        let mut out: Vec<u8> = Vec::new(heap);
-        let input = Broken {
-            rest: b"kind crc8\nfoo\nkind crc16\nkind cr",
-            interrupted: false,
-        };
-        let fed = feed(&mut console, heap, input, &mut out);
-        assert!(rt; matches!(fed, Err(Halt::Input(_))));
-        let why: &[u8] = b"1: ok\n2: cannot (word 1: a line begins with kind, pack, read, bench, load, field, check, box, irq or command)\n3: ok\n";
-        assert!(rt; out.as_slice() == why);
-        assert!(rt; console.tally() == (2, 1));
+        gives(
+            &rt,
+            heap,
+            b"ce\nce 1\nce 1 1 1\ntick\ntick 1 1 1\nhear\nhear 1\nirq\n",
+            b"1: cannot (too few words: ce U 0 or ce U 1)\n2: cannot (too few words: ce U 0 or ce U 1)\n3: cannot (too many words: ce U 0 or ce U 1)\n4: cannot (too few words: tick U or tick U N)\n5: cannot (too many words: tick U or tick U N)\n6: cannot (too few words: hear U BITS BYTES)\n7: cannot (too few words: hear U BITS BYTES)\n8: cannot (too few words: irq U)\n",
+            8,
+        );
+        gives(
+            &rt,
+            heap,
+            b"ce 1 2\nce 1 x\nce 256 1\nirq 256\ncommand 256 FF\n",
+            b"1: cannot (word 3: a level is 0 or 1)\n2: cannot (word 3: a level is 0 or 1)\n3: cannot (word 2: the number of a unit is 0 to 255)\n4: cannot (word 2: the number of a unit is 0 to 255)\n5: cannot (word 2: the number of a unit is 0 to 255)\n",
+            5,
+        );
+        gives(
+            &rt,
+            heap,
+            b"tick 1 0\ntick 1 65536\ntick 1 -1\ntick 256\ntick one\n",
+            b"1: cannot (word 3: a count of ticks is 1 to 65535)\n2: cannot (word 3: a count of ticks is 1 to 65535)\n3: cannot (word 3: a count of ticks is 1 to 65535)\n4: cannot (word 2: the number of a unit is 0 to 255)\n5: cannot (word 2: the number of a unit is 0 to 255)\n",
+            5,
+        );
+        gives(
+            &rt,
+            heap,
+            b"hear 8 0\nhear 1 65536\nhear 1 8 A\n",
+            b"1: cannot (word 2: a unit is 0 to 7)\n2: cannot (word 3: a bit count is 0 to 65535)\n3: cannot (word 4: a byte is two hexadecimal digits)\n",
+            3,
+        );
     }
 
-    // Takes two bytes at a time, each time after an interruption, as long as there is room.
-    struct Narrow<'a> {
-        held: &'a mut Vec<u8>,
-        room: usize,
-        interrupted: bool,
-    }
-
-    impl Write for Narrow<'_> {
-        fn write(&mut self, buf: &[u8]) -> io::Result<usize> {
-            self.interrupted = !self.interrupted;
-            if self.interrupted {
-                return Err(ErrorKind::Interrupted.into());
-            }
-            let count = buf.len().min(2).min(self.room);
-            if count == 0 {
-                return Err(ErrorKind::BrokenPipe.into());
-            }
-            self.held.extend_from_slice(&buf[..count])?;
-            self.room -= count;
-            Ok(count)
-        }
-
-        fn flush(&mut self) -> io::Result<()> {
-            Ok(())
-        }
-    }
-
-    // Where the output fails, a front of the results is written, and the line whose result fails is the last that is taken.
+    // A unit that is not there, by a label's number or another, and one that is still on the bench.
     #[test]
-    fn broken_output(rt: HostRuntime) {
+    fn call_places(rt: HostRuntime) {
         let heap = rt.alloc();
-        let mut console = Console::new();
-        let mut held: Vec<u8> = Vec::new(heap);
-        let mut out = Narrow {
-            held: &mut held,
-            room: 9,
-            interrupted: false,
-        };
-        let script: &[u8] = b"kind crc8\nkind crc16\nkind crc8\n";
-        let fed = feed(&mut console, heap, script, &mut out);
-        assert!(rt; matches!(fed, Err(Halt::Output(_))));
-        assert!(rt; held.as_slice() == b"1: ok\n2: ");
-        assert!(rt; console.tally() == (2, 0));
+        gives(
+            &rt,
+            heap,
+            b"ce 9 1\ntick 1\nhear 2 0\nirq 255\ncommand 8 FF\n",
+            b"1: cannot (unit 9 is not there; a line bench makes one, 0 to 7)\n2: cannot (unit 1 is not there; a line bench makes one, 0 to 7)\n3: cannot (unit 2 is not there; a line bench makes one, 0 to 7)\n4: cannot (unit 255 is not there; a line bench makes one, 0 to 7)\n5: cannot (unit 8 is not there; a line bench makes one, 0 to 7)\n",
+            5,
+        );
+        gives(
+            &rt,
+            heap,
+            b"bench 3\nce 3 1\ntick 3 5\nhear 3 0\n",
+            b"1: ok\n2: cannot (unit 3 is on the bench; the line is for a boxed unit)\n3: cannot (unit 3 is on the bench; the line is for a boxed unit)\n4: cannot (unit 3 is on the bench; the line is for a boxed unit)\n",
+            3,
+        );
+    }
+
+    // At reset a unit has a fault for the 16-bit check: boxed with it, it refuses every call.
+    #[test]
+    fn boxed_with_a_fault(rt: HostRuntime) {
+        let heap = rt.alloc();
+        gives(
+            &rt,
+            heap,
+            b"bench 0\nbox 0\ncommand 0 FF\ncommand 0\nce 0 1\ntick 0\ntick 0 65535\nhear 0 0\nhear 0 9 AA\nirq 0\n",
+            b"1: ok\n2: ok\n3: refused 12 00 (the check finds a fault in CONFIG)\n4: refused 12 00 (the check finds a fault in CONFIG)\n5: refused 12 00 (the check finds a fault in CONFIG)\n6: refused 12 00 (the check finds a fault in CONFIG)\n7: refused 12 00 (the check finds a fault in CONFIG)\n8: refused 12 00 (the check finds a fault in CONFIG)\n9: refused 12 00 (the check finds a fault in CONFIG)\n10: ok high\n",
+            0,
+        );
+    }
+
+    // A fourth payload that waits is refused, and STATUS then says that the queue is full.
+    #[test]
+    fn full_queue(rt: HostRuntime) {
+        let heap = rt.alloc();
+        gives(
+            &rt,
+            heap,
+            b"bench 1\ncommand 1 20 0C\nbox 1\ncommand 1 A0 11\ncommand 1 A0 22\ncommand 1 A0 33\ncommand 1 A0 44\ncommand 1 FF\ncommand 1 61\ncommand 1 E1\ncommand 1 FF\n",
+            b"1: ok\n2: ok 0E\n3: ok\n4: ok 0E\n5: ok 0E\n6: ok 0E\n7: refused 10 (the TX queue is full)\n8: ok 0F\n9: refused 3 (not for a bench unit, or not for its role)\n10: ok 0F\n11: ok 0E\n",
+            0,
+        );
+    }
+
+    // A sender is powered up and sends by the 14th tick; with ARD and ARC 3 it sends three times again, after waits of 100 ticks, and gives up.
+    #[test]
+    fn sends_and_gives_up(rt: HostRuntime) {
+        let heap = rt.alloc();
+        gives(
+            &rt,
+            heap,
+            b"bench 1\ncommand 1 20 0C\ncommand 1 24 33\nbox 1\ncommand 1 20 0E\ntick 1 200\nce 1 1\ncommand 1 A0 01\ntick 1 13\ntick 1\n",
+            b"1: ok\n2: ok 0E\n3: ok 0E\n4: ok\n5: ok 0E\n6: ok 200\n7: ok\n8: ok 0E\n9: ok 13\n10: ok 1 frame 81 AA E7 E7 E7 E7 E7 05 00 E0 5B 00\n",
+            0,
+        );
+        gives(
+            &rt,
+            heap,
+            b"bench 1\ncommand 1 20 0C\ncommand 1 24 33\nbox 1\ncommand 1 20 0E\ntick 1 200\nce 1 1\ncommand 1 A0 01\ntick 1 14\ntick 1 65535\ntick 1 100\ntick 1 99\ntick 1\ntick 1 99\ncommand 1 FF\ntick 1\nirq 1\ncommand 1 08\n",
+            b"1: ok\n2: ok 0E\n3: ok 0E\n4: ok\n5: ok 0E\n6: ok 200\n7: ok\n8: ok 0E\n9: ok 14 frame 81 AA E7 E7 E7 E7 E7 05 00 E0 5B 00\n10: ok 100 frame 81 AA E7 E7 E7 E7 E7 05 00 E0 5B 00\n11: ok 100 frame 81 AA E7 E7 E7 E7 E7 05 00 E0 5B 00\n12: ok 99\n13: ok 1 frame 81 AA E7 E7 E7 E7 E7 05 00 E0 5B 00\n14: ok 99\n15: ok 0E\n16: ok 1\n17: ok low\n18: ok 1E 13\n",
+            0,
+        );
+    }
+
+    // A receiver with the 8-bit check takes a payload once, answers a repeat, drops a damaged frame, and answers none that wants no answer.
+    #[test]
+    fn hears(rt: HostRuntime) {
+        let heap = rt.alloc();
+        gives(
+            &rt,
+            heap,
+            b"kind crc8\nbench 0\ncommand 0 20 09\ncommand 0 22 01\ncommand 0 31 01\nbox 0\nhear 0 73 AA E7 E7 E7 E7 E7 05 00 CA 00\ncommand 0 20 0B\ntick 0 200\nce 0 1\ntick 0 13\nhear 0 73 AA E7 E7 E7 E7 E7 05 00 CA 00\nhear 0 73 AA E7 E7 E7 E7 E7 05 00 CA 00\nhear 0 73 AA E7 E7 E7 E7 E7 05 01 CA 00\nhear 0 73 AA E7 E7 E7 E7 E7 05 80 C0 80\nhear 0 72 AA E7 E7 E7 E7 E7 05 00 CA\nhear 0 73 AA E7 E7 E7 E7 E7 05 00 CA\nirq 0\ncommand 0 61\ncommand 0 61\ncommand 0 61\n",
+            b"1: ok\n2: ok\n3: ok 0E\n4: ok 0E\n5: ok 0E\n6: ok\n7: ok\n8: ok 0E\n9: ok 200\n10: ok\n11: ok 13\n12: ok frame 65 AA E7 E7 E7 E7 E7 01 32 00\n13: ok frame 65 AA E7 E7 E7 E7 E7 01 32 00\n14: ok\n15: ok\n16: ok\n17: refused 18 (bits beyond the frame's bytes)\n18: ok low\n19: ok 40 01\n20: ok 40 01\n21: refused 5 (the RX queue is empty)\n",
+            0,
+        );
     }
 }

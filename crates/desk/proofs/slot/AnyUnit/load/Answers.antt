@@ -1,7 +1,8 @@
 use Rattle.std.proofs.Common.{Some, Ok, sym, ap, ◌∙◌}
 use Rattle.bench.specs.Loading.{load_after}
 use Rattle.desk.specs.declared.slot.AnyUnit.TheVariants.{Bench}
-use Rattle.desk.specs.Slots.{result_said, loaded, load_said}
+use Rattle.desk.specs.Answers.{result_said}
+use Rattle.desk.specs.Slots.{loaded, load_said}
 use Rattle.desk.proofs.Bench.{is_bench}
 use Rattle.desk.proofs.slot.AnyUnit.load.Goals as goal
 

@@ -1,16 +1,16 @@
 use Rattle.std.proofs.Common.{sym, subst}
-use Rattle.requests.specs.Lines.{asked_of}
-use Rattle.desk.specs.Desks.{units_said, Elsewhere, KeptUnlessDone}
-use Rattle.desk.proofs.Kept.{units_kept, elsewhere}
+use Rattle.requests.specs.Lines.{called}
+use Rattle.desk.specs.Desks.{units_answer, Elsewhere, KeptUnlessDone}
+use Rattle.desk.proofs.Kept.{units_called_kept, called_elsewhere}
 use Rattle.desk.proofs.slot.Units.call.Goals as goal
 
 pub returns-clause-elsewhere : goal.returns-clause-elsewhere
 returns-clause-elsewhere c =
-    subst (λ x. Elsewhere c.args.self.now c.args.label.place x) (sym c.pass_on.ensures.after) (elsewhere c.args.self.now c.args.label.place (asked_of c.args.line.now))
+    subst (λ x. Elsewhere c.args.self.now c.args.unit x) (sym c.call_passed_on.ensures.after) (called_elsewhere c.args.self.now c.args.unit (called c.args.call.now))
 
 pub returns-clause-kept : goal.returns-clause-kept
 returns-clause-kept c =
     let us = c.args.self.now in
-    let u = c.args.label.place in
-    let q = asked_of c.args.line.now in
-    subst (λ x. KeptUnlessDone (units_said us u q) us x) (sym c.pass_on.ensures.after) (units_kept us u q)
+    let u = c.args.unit in
+    let q = called c.args.call.now in
+    subst (λ x. KeptUnlessDone (units_answer us u q) us x) (sym c.call_passed_on.ensures.after) (units_called_kept us u q)
