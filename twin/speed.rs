@@ -12,7 +12,7 @@ const PAYLOAD: [u8; 32] = [0x5A; 32];
 
 mod ours {
     unsafe extern "C" {
-        pub safe fn sinkapricot_repeat_crc8(turns: u64) -> u16;
+        pub safe fn sinkapricot_repeat_crc8(turns: u64) -> u8;
         pub safe fn sinkapricot_repeat_crc16(turns: u64) -> u16;
         pub safe fn sinkapricot_repeat_pack(kind: u8, turns: u64) -> u8;
         pub safe fn sinkapricot_repeat_read(kind: u8, turns: u64) -> u8;

@@ -1,3 +1,4 @@
+pub mod Cells
 pub mod Packing
 pub mod Reading
 pub mod Repeating

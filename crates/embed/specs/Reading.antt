@@ -1,5 +1,5 @@
 -- What a reading answers to C.
-use Rattle.std.specs.Prelude.{ℕ, ◌*◌, Bool, false, ◌&&◌, ◌||◌, List, ◌++◌, length, take, drop, replicate, if◌then◌else◌, Some, None, Option, ◌==◌, nat_le}
+use Rattle.std.specs.Prelude.{ℕ, ◌*◌, Bool, false, ◌&&◌, List, ◌++◌, length, take, drop, replicate, if◌then◌else◌, Some, None, Option, ◌==◌, nat_le}
 use Rattle.checks.specs.Bits.{bits}
 use Rattle.checks.specs.Crc.{crc8, crc16}
 use Rattle.frames.specs.Packet.{Packet, covered, reading}

@@ -5,11 +5,9 @@ use Rattle.std.specs.Result.{result_unwrap_or}
 use Rattle.checks.specs.Crc.{crc16}
 use Rattle.frames.specs.Packet.{buffer_after}
 use Rattle.registers.specs.File.{at_reset}
-use Rattle.commands.specs.declared.refusal.Refusal.{Refusal}
 use Rattle.commands.specs.Decode.{ordered}
 use Rattle.commands.specs.Status.{irq_of}
 use Rattle.bench.specs.Loading.{load_after}
-use Rattle.unit.specs.declared.state.State.{State}
 use Rattle.unit.specs.Boxing.{boxed}
 use Rattle.unit.specs.Commanding.{command_after, command_buffer}
 use Rattle.unit.specs.Ticking.{tick_answer, tick_after, tick_buffer, ce_after}
@@ -20,7 +18,7 @@ use Rattle.embed.specs.declared.repeating.units_again.Hearing.{Hearing}
 use Rattle.embed.specs.declared.repeating.units_again.Knowing.{Knowing}
 
 -- the bits that were answered, on top of a sum, as far as 64 bits go
-abbrev pub added : ℕ → Result ℕ Refusal → ℕ
+abbrev pub added : {E : Type 0} → ℕ → Result ℕ E → ℕ
 added sum answer = min (sum + result_unwrap_or answer 0) (2 ^ 64 - 1)
 
 -- ---- ticks
