@@ -1252,12 +1252,12 @@ impl<C: Check> Boxed<C> {
         self.flags & !self.config & FLAGS != 0
     }
 
-    /// Whether the unit is as boxing without a fault gives it.
+    /// Whether the unit is as boxing without a fault gives it, with whatever interrupt masks.
     fn is_as_boxed(&self) -> bool {
         self.fault.is_none()
             && !self.ce
             && self.mode == Mode::Shutdown
-            && self.config == self.registers.low(CONFIG)
+            && (self.config ^ self.registers.low(CONFIG)) & !MASKS == 0
             && self.flags == 0
             && self.resent == 0
             && self.lost == 0
