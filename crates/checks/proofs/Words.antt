@@ -14,8 +14,8 @@ mod_less n k w h =
     let q : (w - k) + k ≡ w = omega arith in
     subst (λ (m : ℕ). n % 2 ^ m % 2 ^ k ≡ n % 2 ^ k) q (mod-mod-pow n (w - k) k)
 
-same_below : (n m j k : ℕ) → j ≤ k → n % 2 ^ k ≡ m % 2 ^ k → n % 2 ^ j ≡ m % 2 ^ j
-same_below n m j k h e = sym (mod_less n j k h) ∙ ap (λ (x : ℕ). x % 2 ^ j) e ∙ mod_less m j k h
+mod_same : (n m j k : ℕ) → j ≤ k → n % 2 ^ k ≡ m % 2 ^ k → n % 2 ^ j ≡ m % 2 ^ j
+mod_same n m j k h e = sym (mod_less n j k h) ∙ ap (λ (x : ℕ). x % 2 ^ j) e ∙ mod_less m j k h
 
 -- the low k bits depend on the number modulo 2 ^ k
 pub word_low : (k n m : ℕ) → n % 2 ^ k ≡ m % 2 ^ k → word k n ≡ word k m
@@ -26,7 +26,7 @@ word_low (suc k) n m e =
     let e' : n % 2 ^ (1 + k) ≡ m % 2 ^ (1 + k) = subst (λ (j : ℕ). n % 2 ^ j ≡ m % 2 ^ j) q e in
     ap₂ (λ (x : Bool) (xs : List Bool). x ∷ xs)
     (ap (λ (x : ℕ). nat_eq x 1) (sym (field_of n 1 k) ∙ ap (λ (x : ℕ). x / 2 ^ k) e' ∙ field_of m 1 k))
-    (word_low k n m (same_below n m k (suc k) (omega arith) e))
+    (word_low k n m (mod_same n m k (suc k) (omega arith) e))
 
 -- a number behind another
 pub word_join : (m k a b : ℕ) → b < 2 ^ k → word (m + k) (a * 2 ^ k + b) ≡ word m a ++ word k b

@@ -1,4 +1,4 @@
-use Rattle.std.proofs.Common.{◌≡◌, ℕ, ◌+◌, ◌*◌, ◌/◌, ◌%◌, ◌<◌, ◌≤◌, ◌^◌, ◌-◌, Bool, List, [], ◌++◌, drop, bit_or, length, get_or, take, sym, refl, subst, ap, ap₂, ◌∙◌, arith}
+use Rattle.std.proofs.Common.{◌≡◌, ℕ, ◌+◌, ◌*◌, ◌/◌, ◌%◌, ◌<◌, ◌≤◌, ◌^◌, ◌⊎◌, ◌-◌, Bool, List, [], ◌++◌, drop, bit_or, length, get_or, take, sym, refl, subst, ap, ap₂, ◌∙◌, arith}
 use Rattle.std.proofs.lemmas.List.{append-nil}
 use Rattle.std.proofs.lemmas.Nat.{shl_whole, or_shifted, shr_below, mul-add-lt, pow-add}
 use Rattle.std.specs.Simd.{first_chunks}
@@ -14,29 +14,26 @@ pub loop-eight-init : goal.loop-eight-init
 unfolding bits
 loop-eight-init g c = c.START-register.ensures
 
+-- a register that a string led to
+under :
+    (w p start r : ℕ) (s : List Bool) → (w ≡ 8) ⊎ (w ≡ 16) → p % 2 ≡ 1 → p < 2 ^ w → start < 2 ^ w → r ≡ run w p start s → r < 2 ^ w
+under w p start r s wide odd small begun e =
+    subst (λ (n : ℕ). n < 2 ^ w) (sym e) (every_below w p start (run w p start) refl (positive wide) odd small begun s)
+
 pub steps-register-requires-clause-below : goal.steps-register-requires-clause-below
 steps-register-requires-clause-below g c =
-    let p = g.P.Parameters in
     let law = g.met.P.Parameters in
-    subst (λ (n : ℕ). n < 2 ^ p.WIDTH) (sym c.loop-eight.invariant)
-    (every_below p.WIDTH p.POLYNOMIAL p.START (run p.WIDTH p.POLYNOMIAL p.START) refl (positive law.wide) law.odd law.small law.begun
-    (bits (take (c.loop-eight.eight-index * 8) (take c.min-whole.result c.args.bytes.now))))
+    under _ _ _ _ (bits (take (c.loop-eight.eight-index * 8) (take c.min-whole.result c.args.bytes.now))) law.wide law.odd law.small law.begun c.loop-eight.invariant
 
 pub steps-requires-clause-below : goal.steps-requires-clause-below
 steps-requires-clause-below g c =
-    let p = g.P.Parameters in
     let law = g.met.P.Parameters in
-    subst (λ (n : ℕ). n < 2 ^ p.WIDTH) (sym c.loop-eight.invariant)
-    (every_below p.WIDTH p.POLYNOMIAL p.START (run p.WIDTH p.POLYNOMIAL p.START) refl (positive law.wide) law.odd law.small law.begun
-    (bits (take (c.loop-eight.eight-index * 8) (take c.min-whole.result c.args.bytes.now))))
+    under _ _ _ _ (bits (take (c.loop-eight.eight-index * 8) (take c.min-whole.result c.args.bytes.now))) law.wide law.odd law.small law.begun c.loop-eight.invariant
 
 pub steps-requires-in-None-clause-below : goal.steps-requires-in-None-clause-below
 steps-requires-in-None-clause-below g c =
-    let p = g.P.Parameters in
     let law = g.met.P.Parameters in
-    subst (λ (n : ℕ). n < 2 ^ p.WIDTH) (sym c.loop-eight.invariant)
-    (every_below p.WIDTH p.POLYNOMIAL p.START (run p.WIDTH p.POLYNOMIAL p.START) refl (positive law.wide) law.odd law.small law.begun
-    (bits (take (c.loop-eight.eight-index * 8) (take c.min-whole.result c.args.bytes.now))))
+    under _ _ _ _ (bits (take (c.loop-eight.eight-index * 8) (take c.min-whole.result c.args.bytes.now))) law.wide law.odd law.small law.begun c.loop-eight.invariant
 
 pub loop-eight-preserved : goal.loop-eight-preserved
 loop-eight-preserved g c =
