@@ -1,4 +1,4 @@
-use Rattle.std.proofs.Common.{sym, ap, ◌∙◌, arith}
+use Rattle.std.proofs.Common.{ap, ◌∙◌, arith}
 use Rattle.checks.specs.Bits.{bits}
 use Rattle.frames.proofs.Words.{across_eight_right}
 use Rattle.frames.proofs.bits.across_eight.Goals as goal

@@ -1,8 +1,7 @@
-use Rattle.std.proofs.Common.{◌≡◌, ℕ, List, ◌+◌, ◌-◌, ◌*◌, ◌/◌, ◌%◌, ◌<◌, [], take, drop, get_or, set, length, refl, sym, ap, ◌∙◌, subst, arith}
+use Rattle.std.proofs.Common.{◌≡◌, ℕ, List, ◌+◌, ◌-◌, ◌*◌, ◌/◌, ◌<◌, [], take, drop, get_or, set, length, refl, sym, ap, ◌∙◌, subst, arith}
 use lib.Seq.{paste}
 use Rattle.std.proofs.lemmas.List.{get_or-drop}
 use Rattle.std.proofs.lemmas.Slice.{put_mid-paste}
-use Rattle.std.specs.Simd.{first_chunks}
 use Rattle.checks.specs.Bits.{bits}
 use Rattle.frames.proofs.Words.{Written, put_copied, written_none, written_more, written_eight, written_all, chunk_at}
 use Rattle.frames.proofs.bits.put_octets.Goals as goal
