@@ -1,7 +1,6 @@
-// Numbers and bytes in the bits of a buffer. The loops over a number's bits go by their places: neither a number nor a
-// part of a slice has an iterator over its bits. A bit of a number is one expression, since `bit_at` reads byte strings;
-// `get_bits` sums in a loop and no fold: that the sum stays in 16 bits is an invariant of the loop. Each call takes its place `at`, and there is no cursor that keeps one:
-// the callers jump to the places that a frame's layout gives.
+// Numbers and bytes in the bits of a buffer, whole bytes at a time. Each call takes its place `at`, and there is no cursor that
+// keeps one: the callers jump to the places that a frame's layout gives. A number of at most 16 bits is in up to three bytes;
+// what it is to each of them has no loop, so that a place and a count that the caller knows leave one byte's shift and mask.
 ghost use Rattle.std.specs.Prelude.{◌≡◌, ℕ, ◌+◌, ◌-◌, ◌*◌, ◌%◌, ◌^◌, ◌<◌, ◌≤◌, ◌++◌, false, length, take, drop, slice_index, slice_set};
 ghost use Rattle.std.proofs.Math.Seq.{paste};
 ghost use Rattle.checks.specs.Bits.{word, bits};
