@@ -7,6 +7,12 @@ use Rattle.std.proofs.lemmas.Nat.Bits.{ones_shr}
 use Rattle.std.proofs.lemmas.List.{append_assoc, append-nil, take_all, take_at, drop_at, take-append-le, drop-append-le, length-take-le, length-drop, drop-drop, drop_more, take_more, take_more_set, set_split, drop-set-lt, length-take, get_or-take, get_or-drop, get_or_past}
 use Rattle.std.proofs.lemmas.Bool.{cases_lt}
 use Rattle.std.proofs.lemmas.List.Edits.{paste-paste, paste_all}
+use Rattle.std.specs.Int.{w64, byte_at, bytes_high_first, from_be_bytes, to_be_bytes}
+use Rattle.std.specs.Simd.{first_chunks}
+use Rattle.std.proofs.Common.{pow-suc}
+use Rattle.std.proofs.lemmas.Nat.{be_bytes_8}
+use Rattle.std.proofs.lemmas.List.{drop_all}
+use Rattle.std.proofs.lemmas.List.Edits.{take-paste, drop-paste}
 use Rattle.checks.specs.Bits.{word, bits}
 use Rattle.checks.specs.Places.{length_word, length_bits}
 use Rattle.frames.specs.Octets.{number, octets}
@@ -316,6 +322,39 @@ written_more old at src now last i b y hs hn eb e w =
       rw n (drop-set-lt (k + 1) now k y (omega arith) ∙ step now ∙ ap (drop 1) w.1 ∙ sym (step old)),
     )
 
+-- eight bytes at once
+pub written_eight :
+    (old : List ℕ) (at : ℕ) (src now : List ℕ) (last i : ℕ) (ys eight : List ℕ) → i + 8 ≤ length src → at / 8 + i + 8 ≤ length now
+    → eight ≡ take 8 (drop i src) → length ys ≡ 8 → bits ys ≡ drop (8 - at % 8) (word 8 last) ++ take (64 - at % 8) (bits eight)
+    → Written old at src now last i → Written old at src (paste now (at / 8 + i) ys 8) (get_or eight 7 0) (i + 8)
+unfolding bits
+written_eight old at src now last i ys eight hs hn ee ly ey w =
+    let k = at / 8 + i in
+    let s = at % 8 in
+    let p = bits (take k now) in
+    let d = drop (8 - s) (word 8 last) in
+    let b = bits eight in
+    let x = word 8 (get_or eight 7 0) in
+    let le : length eight ≡ 8 = ap length ee ∙ length-take-le 8 (drop i src) (omega (arith, length-drop i src)) in
+    let n : at / 8 + (i + 8) ≡ k + 8 = omega arith in
+    let q : 64 - s ≡ 56 + (8 - s) = omega arith in
+    let tail : drop (64 - s) b ≡ drop (8 - s) x =
+    ap (λ (m : ℕ). drop m b) q ∙ sym (drop-drop (8 - s) 56 b)
+    ∙ ap (drop (8 - s)) (bits_from eight 7 (omega (arith, le)) ∙ ap (λ (zs : List ℕ). x ++ bits zs) (drop_all 8 eight (omega (arith, le))) ∙ append-nil x) in
+    let one : bits (take (k + 8) (paste now k ys 8)) ≡ p ++ (d ++ take (64 - s) b) =
+    ap bits (take-paste now k ys 8 (omega arith) (omega (arith, ly))) ∙ bits_append (take k now) (take 8 ys)
+    ∙ ap (λ (u : List Bool). p ++ u) (ap bits (take_all 8 ys (omega (arith, ly))) ∙ ey) in
+    let src' : bits (take (i + 8) src) ≡ bits (take i src) ++ b =
+    ap bits (take-add i 8 src) ∙ bits_append (take i src) (take 8 (drop i src)) ∙ ap (λ (zs : List ℕ). bits (take i src) ++ bits zs) (sym ee) in
+    let step : (xs : List ℕ) → drop (k + 8) xs ≡ drop 8 (drop k xs) = λ xs. sym (drop-drop 8 k xs) in (
+      ap (λ (m : ℕ). bits (take m (paste now k ys 8)) ++ drop (8 - s) x) n
+          ∙ ap (λ (u : List Bool). u ++ drop (8 - s) x) (one ∙ sym (append_assoc p d (take (64 - s) b)))
+          ∙ append_assoc (p ++ d) (take (64 - s) b) (drop (8 - s) x)
+          ∙ ap₂ (λ (u v : List Bool). u ++ v) w.0 (ap (λ (u : List Bool). take (64 - s) b ++ u) (sym tail) ∙ take-append-drop (64 - s) b)
+          ∙ append_assoc (take at (bits old)) (bits (take i src)) b ∙ ap (λ (u : List Bool). take at (bits old) ++ u) (sym src'),
+      rw n (drop-paste now k ys 8 (omega arith) (omega (arith, ly)) ∙ step now ∙ ap (drop 8) w.1 ∙ sym (step old)),
+    )
+
 pub written_all :
     (old : List ℕ) (at : ℕ) (src now : List ℕ) (last rest z : ℕ) → at / 8 + length src < length now
     → word 8 rest ≡ take 8 (drop (at % 8) (word 8 (get_or now (at / 8 + length src) 0) ++ word 8 0))
@@ -348,3 +387,55 @@ written_all old at src now last rest z h er ez w =
     ∙ ap₂ (λ (u v : List Bool). u ++ v) (w.0 ∙ ap (λ (u : List ℕ). take at (bits old) ++ bits u) all) back
     ∙ append_assoc (take at (bits old)) (bits src) (drop (at + 8 * n) (bits old))
     ∙ sym (paste_all (bits old) at (bits src) (8 * n) (sym (length_bits src)))
+
+-- ---- eight bytes as one number
+
+pow256 : (k : ℕ) → 256 ^ k ≡ 2 ^ (8 * k)
+pow256 zero = refl
+pow256 (suc k) =
+    let e : 8 * suc k ≡ 8 + 8 * k = omega arith in
+    rw e (omega (arith, pow-suc 256 k, pow-add 2 8 (8 * k), pow256 k))
+
+top : (k n : ℕ) → word 8 (byte_at k n) ≡ word 8 (n / 2 ^ (8 * k))
+top zero n = word_mod 8 n ∙ ap (word 8) (omega arith)
+top (suc k) n = word_mod 8 (n / 256 ^ suc k) ∙ ap (λ (m : ℕ). word 8 (n / m)) (pow256 (suc k))
+
+bytes_bits : (k n : ℕ) → bits (bytes_high_first k n) ≡ word (8 * k) n
+unfolding bits word
+bytes_bits zero n = refl
+bytes_bits (suc k) n =
+    let e : 8 * suc k ≡ 8 + 8 * k = omega arith in
+    ap₂ (λ (x y : List Bool). x ++ y) (top k n) (bytes_bits k n) ∙ sym (ap (λ (m : ℕ). word m n) e ∙ word_split 8 (8 * k) n)
+
+pub across_eight_right :
+    (last s number : ℕ) (eight : List ℕ) → s < 8 → number < 2 ^ 64 → length eight ≡ 8 → ((i : ℕ) → get_or eight i 0 < 256) → number ≡ from_be_bytes w64 eight
+    → bits (to_be_bytes w64 (bit_or (bit_and last (255 / 2 ^ (8 - s)) * 2 ^ (64 - s) % 18446744073709551616) (number / 2 ^ s)))
+    ≡ drop (8 - s) (word 8 last) ++ take (64 - s) (bits eight)
+across_eight_right last s number eight h8 hn le by e =
+    let r = last % 2 ^ s in
+    let t = 64 - s in
+    let u : s + t ≡ 64 = omega arith in
+    let v : t + s ≡ 64 = omega arith in
+    let w8 : 8 - s + s ≡ 8 = omega arith in
+    let lr = mod_below last (2 ^ s) (pow_pos s) in
+    let ln : number / 2 ^ s < 2 ^ t = shr_below number t s (subst (λ (k : ℕ). number < 2 ^ k) (sym v) hn) in
+    let m = r * 2 ^ t + number / 2 ^ s in
+    let o : bit_or (bit_and last (255 / 2 ^ (8 - s)) * 2 ^ t % 18446744073709551616) (number / 2 ^ s) ≡ m =
+    ap (λ (x : ℕ). bit_or (x * 2 ^ t % 18446744073709551616) (number / 2 ^ s)) (ones last s (omega arith))
+    ∙ ap (λ (x : ℕ). bit_or x (number / 2 ^ s)) (shl_whole r s t 64 lr (omega arith)) ∙ or_shifted r t (number / 2 ^ s) ln in
+    let d : drop (8 - s) (word 8 last) ≡ word s last =
+    ap (λ (k : ℕ). drop (8 - s) (word k last)) (sym w8) ∙ ap (drop (8 - s)) (word_split (8 - s) s last)
+    ∙ drop_at (word (8 - s) (last / 2 ^ s)) (word s last) (8 - s) (length_word (8 - s) (last / 2 ^ s)) in
+    let f : take t (bits eight) ≡ word t (number / 2 ^ s) =
+    ap (take t) (ap bits (sym (be_bytes_8 eight number le by e)) ∙ bytes_bits 8 number ∙ ap (λ (k : ℕ). word k number) (sym v) ∙ word_split t s number)
+    ∙ take_at (word t (number / 2 ^ s)) (word s number) t (length_word t (number / 2 ^ s)) in
+    ap (λ (x : ℕ). bits (to_be_bytes w64 x)) o ∙ bytes_bits 8 m ∙ ap (λ (k : ℕ). word k m) (sym u) ∙ word_join s t r (number / 2 ^ s) ln
+    ∙ ap₂ (λ (x y : List Bool). x ++ y) (word_mod s last ∙ sym d) (sym f)
+
+-- a chunk of eight
+pub chunk_at : (k : ℕ) (xs : List ℕ) (i : ℕ) → i < k → get_or (first_chunks 8 k xs) i [] ≡ take 8 (drop (8 * i) xs)
+chunk_at zero xs i h = absurd (omega (arith, h))
+chunk_at (suc k) xs zero h = refl
+chunk_at (suc k) xs (suc i) h =
+    let e : 8 + 8 * i ≡ 8 * suc i = omega arith in
+    chunk_at k (drop 8 xs) i (omega (arith, h)) ∙ ap (take 8) (drop-drop (8 * i) 8 xs ∙ ap (λ (m : ℕ). drop m xs) e)

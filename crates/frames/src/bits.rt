@@ -1,7 +1,6 @@
-// Numbers and bytes in the bits of a buffer. The loops over a number's bits go by their places: neither a number nor a
-// part of a slice has an iterator over its bits. A bit of a number is one expression, since `bit_at` reads byte strings;
-// `get_bits` sums in a loop and no fold: that the sum stays in 16 bits is an invariant of the loop. Each call takes its place `at`, and there is no cursor that keeps one:
-// the callers jump to the places that a frame's layout gives.
+// Numbers and bytes in the bits of a buffer, whole bytes at a time. Each call takes its place `at`, and there is no cursor that
+// keeps one: the callers jump to the places that a frame's layout gives. A number of at most 16 bits is in up to three bytes;
+// what it is to each of them has no loop, so that a place and a count that the caller knows leave one byte's shift and mask.
 ghost use Rattle.std.specs.Prelude.{◌≡◌, ℕ, ◌+◌, ◌-◌, ◌*◌, ◌%◌, ◌^◌, ◌<◌, ◌≤◌, ◌++◌, false, length, take, drop, slice_index, slice_set};
 ghost use Rattle.std.proofs.Math.Seq.{paste};
 ghost use Rattle.checks.specs.Bits.{word, bits};
@@ -105,7 +104,17 @@ fn across(first: u8, next: u8, place: usize) -> u8
     ((both >> (8 - place)) % 256) as u8
 }
 
-// Bytes are written from a place on that need not be a byte's start; the other bits stay.
+// Eight bytes that begin with the last bits of a byte, as many as `place` says, and go on in eight others.
+fn across_eight(last: u8, eight: &[u8; 8], place: usize) -> [u8; 8]
+    requires some { 0 < place }
+    requires few { place < 8 }
+    ensures { bits result ≡ drop (8 - place) (word 8 last) ++ take (64 - place) (bits eight.now) }
+{
+    let kept = (last & 0xFF >> (8 - place)) as u64;
+    (kept << (64 - place) | u64::from_be_bytes(*eight) >> place).to_be_bytes()
+}
+
+// Bytes are written from a place on that need not be a byte's start; the other bits stay. Eight bytes go at once.
 pub(crate) fn put_octets(buf: &mut [u8], at: usize, src: &[u8])
     requires { HasBits buf.old at (8 * length src.now) }
     ensures { bits buf.new ≡ paste (bits buf.old) at (bits src.now) (8 * length src.now) }
@@ -118,13 +127,21 @@ pub(crate) fn put_octets(buf: &mut [u8], at: usize, src: &[u8])
     }
     // ends with the bits before the place
     let mut last = across(0, buf[start], place);
-    for (i, b) in src.iter().enumerate() {
-        buf[start + i] = across(last, *b, 8 - place);
+    let (eights, rest) = src.as_chunks::<8>();
+    for (k, eight) in eights.iter().enumerate() {
+        let from = start + 8 * k;
+        buf[from..from + 8].copy_from_slice(&across_eight(last, eight, place));
+        last = eight[7];
+    }
+    let from = start + 8 * eights.len();
+    for (i, b) in rest.iter().enumerate() {
+        buf[from + i] = across(last, *b, 8 - place);
         last = *b;
     }
     let end = start + src.len();
-    let rest = across(buf[end], 0, place);
-    buf[end] = across(last, rest, 8 - place);
+    // begins with the bits behind
+    let behind = across(buf[end], 0, place);
+    buf[end] = across(last, behind, 8 - place);
 }
 
 // Bytes are filled by the bits from a place on.
