@@ -5,4 +5,4 @@ mod profiles;
 mod texts;
 
 pub use profiles::ProfileRows;
-pub use texts::{Framed, Lacking, Refused, Said, front};
+pub use texts::{CellRefused, Framed, Lacking, Refused, Said, front};

@@ -1,8 +1,9 @@
 // What a unit answers or lacks, in words.
 ghost use Rattle.std.specs.Prelude.{◌≡◌, take, Some};
 ghost use Rattle.desk.specs.Answers.{said_of};
-ghost use Rattle.answers.specs.Texts.{refusal_text, frame_text, said_text, lack_text};
+ghost use Rattle.answers.specs.Texts.{refusal_text, layer_text, cell_refusal_text, frame_text, said_text, lack_text};
 
+use cell::Layer;
 use commands::Refusal;
 use desk::{Frame, UnitAnswer, UnitResult};
 use requests::Lack;
@@ -32,6 +33,38 @@ impl fmt::Display for Refused {
                 write!(f, "refused {number} {address:02X} ({refusal})")
             }
             None => write!(f, "refused {number} ({refusal})"),
+        }
+    }
+}
+
+fn layer_word(layer: Layer) -> &'static str
+    ensures { result.now ≡ layer_text layer }
+{
+    match layer {
+        Layer::Unit => "unit",
+        Layer::Cell => "cell",
+    }
+}
+
+// A refusal by a cell: the layer that refuses, the unit that it names, and the rest as of a unit's own.
+#[derive(Clone, Copy, Debug, PartialEq, Eq)]
+pub struct CellRefused(pub cell::Refusal);
+
+impl fmt::Display for CellRefused {
+    ghost output = { λ x. Some (cell_refusal_text x.0) };
+
+    fn fmt<W: fmt::Write>(&self, f: &mut fmt::Formatter<W>) -> fmt::Result {
+        let CellRefused(refusal) = *self;
+        let layer = layer_word(refusal.layer());
+        let unit = refusal.unit;
+        let number = refusal.cause.number();
+        match refusal.cause.register() {
+            Some(register) => write!(
+                f,
+                "refused {layer} {unit} {number}{} ({refusal})",
+                Apart(&[register.address()])
+            ),
+            None => write!(f, "refused {layer} {unit} {number} ({refusal})"),
         }
     }
 }
@@ -79,7 +112,9 @@ impl fmt::Display for Said<'_> {
                     answer: Some(frame),
                 },
             ) => write!(f, "ok {}", Framed(frame)),
-            Err(refusal) => write!(f, "{}", Refused(*refusal)),
+            Ok(UnitAnswer::CellReply(reply)) => write!(f, "ok{}", Apart(reply.bytes())),
+            Err(desk::Refusal::Unit(refusal)) => write!(f, "{}", Refused(*refusal)),
+            Err(desk::Refusal::Cell(refusal)) => write!(f, "{}", CellRefused(*refusal)),
         }
     }
 }
@@ -110,6 +145,11 @@ impl fmt::Display for Lacking {
                 f,
                 "unit {unit} is on the bench; the line is for a boxed unit"
             ),
+            Lack::InCell => write!(
+                f,
+                "unit {unit} is out of reach; a cell is made, and the line is for a unit outside of one"
+            ),
+            Lack::NotInCell => write!(f, "unit {unit} is no unit of the cell"),
         }
     }
 }

@@ -1,4 +1,7 @@
-use commands::Refusal;
+ghost use Rattle.std.specs.Prelude.{◌≡◌};
+ghost use Rattle.desk.specs.declared.answer.Refusal.TheVariants.{Unit as of_unit};
+
+use delivery::Reply;
 
 // A frame that a unit sends: so many bits, at the front of a buffer. Its bytes would not tell how many bits it has, so a Vec or an
 // ArrayVec would stand beside the bit count too; and a Vec would make the call fail for want of memory.
@@ -20,10 +23,27 @@ pub enum UnitAnswer {
     Reply { length: usize, buffer: [u8; 255] },
     // how many ticks were taken, and what the last of them sent
     Ticks { taken: u16, sent: Option<Frame> },
-    // what is sent back to a frame that was heard
+    // what is sent back to a frame that was heard, or is on the air after a carry
     Heard { answer: Option<Frame> },
+    // a reply by a unit of the cell
+    CellReply(Reply),
 }
 
-// What a call on a unit gives: an answer, or the unit's refusal. It stands inside the Result of a call, apart from `Lack`: a refusal is
-// what the unit gives and counts as carried out, a lack is not.
+// Who refuses: a unit outside of a cell, or the cell.
+#[derive(Clone, Copy, Debug, PartialEq, Eq)]
+pub enum Refusal {
+    Unit(commands::Refusal),
+    Cell(cell::Refusal),
+}
+
+impl From<commands::Refusal> for Refusal {
+    ghost from_gives = { λ e r. r ≡ of_unit e };
+
+    fn from(e: commands::Refusal) -> Refusal {
+        Refusal::Unit(e)
+    }
+}
+
+// What a call gives: an answer, or a refusal. It stands inside the Result of a call, apart from `Lack`: a refusal is what the engine
+// gives and counts as carried out, a lack is not.
 pub type UnitResult = Result<UnitAnswer, Refusal>;

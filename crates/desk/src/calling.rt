@@ -31,7 +31,8 @@ fn command_bench(unit: &mut Bench, room: u8, bytes: &[u8]) -> UnitResult
 fn done(carried: Result<(), Refusal>) -> UnitResult
     ensures { said_of result ≡ result_said carried }
 {
-    carried.map(|()| UnitAnswer::Done)
+    carried?;
+    Ok(UnitAnswer::Done)
 }
 
 impl<C: Check> AnyUnit<C> {

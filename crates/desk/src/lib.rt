@@ -4,8 +4,12 @@
 mod answer;
 mod boxed;
 mod calling;
+mod cell_calls;
+mod counts;
+mod making;
 mod slot;
 mod units;
 
-pub use answer::{Frame, UnitAnswer, UnitResult};
-pub use slot::{AnyUnit, Desk, Units};
+pub use answer::{Frame, Refusal, UnitAnswer, UnitResult};
+pub use counts::Counts;
+pub use slot::{AnyUnit, Desk, Units, Watched};

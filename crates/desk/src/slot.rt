@@ -1,4 +1,6 @@
+use crate::counts::Counts;
 use bench::Bench;
+use cell::Cell;
 use checks::{Crc8, Crc16};
 use unit::Boxed;
 
@@ -9,10 +11,18 @@ pub enum AnyUnit<C> {
     Boxed(Boxed<C>),
 }
 
-// Eight places for a unit, by their labels.
+// A cell, and what its calls came to.
+#[derive(Drop)]
+pub struct Watched<C> {
+    pub cell: Cell<C>,
+    pub counts: Counts,
+}
+
+// Eight places for a unit, by their labels; and a cell, once one is made: lines are then for it.
 #[derive(Drop)]
 pub struct Desk<C> {
     pub slots: [Option<AnyUnit<C>>; 8],
+    pub cell: Option<Watched<C>>,
 }
 
 // The units, for the check in force. A script names the check while it runs, so the type of the check is chosen by a match.

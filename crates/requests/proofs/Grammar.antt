@@ -13,9 +13,10 @@ use Rattle.requests.specs.declared.lines.Line.{Line}
 use Rattle.requests.specs.declared.lines.Stop.{Stop}
 use Rattle.requests.specs.declared.lines.Stop.TheVariants.{Cannot as Unable, Memory}
 use Rattle.requests.specs.Lines.{asked, Gives, Request, kind, pack, read, unit, bench, check, box, then, or_else, kind_named, address_of, number_in, bit_of, as_bytes, kind_line, pack_line, read_line, unit_form_named, line_as, line_of}
-use Rattle.requests.specs.Grammar.{Settled, Asks, kind_crc8, kind_crc16, packs, reads, fields, benches, checks, boxes, loads, hears, commands, commands_with, levels, irqs, ticks, ticks_up_to}
+use Rattle.requests.specs.Grammar.{Settled, Asks, kind_crc8, kind_crc16, packs, reads, fields, benches, checks, boxes, loads, hears, commands, commands_with, levels, irqs, ticks, ticks_up_to, makes, carries, carries_changed}
 use Rattle.requests.proofs.Steps.{never, ok_same, then_ok, unless, enough, begun, crowded, bytes_last, number_fits, number_parts, address_fits, address_parts, bit_fits, bit_parts, bytes_fit, bytes_parts, named, choose}
 use Rattle.requests.proofs.UnitLines.{label_fits, fields_complete, loads_complete, hears_complete, plain_back, field_back, load_back, hear_back}
+use Rattle.requests.proofs.CellLines.{carries_complete, carries_changed_complete, make_back, carry_back}
 use Rattle.requests.proofs.CallLines.{commands_complete, commands_with_complete, levels_complete, irqs_complete, ticks_complete, ticks_up_to_complete, command_back, ce_back, irq_back, tick_back}
 
 -- ---- from the words to the answer
@@ -50,6 +51,9 @@ complete ws q (commands_with u n bs number room bytes is room_is room_high are) 
 complete ws q (levels u n number level is n-is n-high) = levels_complete u n number level is n-is n-high
 complete ws q (irqs u number is) = irqs_complete u number is
 complete ws q (ticks u number is) = ticks_complete u number is
+complete ws q makes = refl
+complete ws q (carries n fate is high) = carries_complete n fate is high
+complete ws q (carries_changed n s p fate start pattern is high s-is s-high p-is) = carries_changed_complete n s p fate start pattern is high s-is s-high p-is
 complete ws q (ticks_up_to u n number times is n-is n-low n-high) = ticks_up_to_complete u n number times is n-is n-low n-high
 
 -- ---- and back
@@ -131,7 +135,9 @@ unit_line w ws q =
     choose (Some form.Ce) _ (codes "ce") w ws q (ce_back w ws q) (
     choose (Some form.Irq) _ (codes "irq") w ws q (irq_back w ws q) (
     choose (Some form.Tick) _ (codes "tick") w ws q (tick_back w ws q) (
-    choose (Some form.Hear) None (codes "hear") w ws q (hear_back w ws q) (never (Word 1 want.Form) q))))))))))
+    choose (Some form.Hear) _ (codes "hear") w ws q (hear_back w ws q) (
+    choose (Some form.Make) _ (codes "make") w ws q (make_back w ws q) (
+    choose (Some form.Carry) None (codes "carry") w ws q (carry_back w ws q) (never (Word 1 want.Form) q))))))))))))
 
 sound : (ws : List (List ℕ)) (q : Request) → line_of ws ≡ Ok q → Asks ws q
 sound [] q = never (Word 1 want.Form) q

@@ -5,7 +5,7 @@ use Rattle.requests.specs.declared.lines.Kind.TheVariants.{Crc8, Crc16}
 use Rattle.requests.specs.declared.lines.Line.{Line}
 use Rattle.requests.specs.declared.lines.Stop.{Stop}
 use Rattle.requests.specs.declared.lines.Stop.TheVariants.{Cannot as Unable, Memory}
-use Rattle.requests.specs.Lines.{Request, kind, pack, read, field, unit, call, bench, load, check, box, hear, command, ce, irq, tick, asked}
+use Rattle.requests.specs.Lines.{Request, kind, pack, read, field, unit, call, bench, load, check, box, hear, command, ce, irq, tick, make, carry, four_digits, asked}
 
 -- words that are bytes, one for each
 abbrev pub Write : List (List ℕ) → List ℕ → Type 0
@@ -78,6 +78,16 @@ pub data Asks : List (List ℕ) → Request → Type 0 where
   ticks_up_to : (u n : List ℕ) (number times : ℕ)
       → Numbers u number → decimal_of n ≡ Some times → 1 ≤ times → times ≤ 65535
       → Asks (codes "tick" ∷ u ∷ n ∷ []) (call number (tick times))
+  -- make
+  makes : Asks (codes "make" ∷ []) make
+  -- carry F
+  carries : (n : List ℕ) (fate : ℕ) → decimal_of n ≡ Some fate → fate ≤ 255 → Asks (codes "carry" ∷ n ∷ []) (carry fate 0 0)
+  -- carry F START PATTERN
+  carries_changed : (n s p : List ℕ) (fate start pattern : ℕ)
+      → decimal_of n ≡ Some fate → fate ≤ 255
+      → decimal_of s ≡ Some start → start ≤ 65535
+      → four_digits p ≡ Some pattern
+      → Asks (codes "carry" ∷ n ∷ s ∷ p ∷ []) (carry fate start pattern)
 
 -- what is answered is what the words ask for, and they ask for nothing else; where there is a reason instead, they ask for nothing
 abbrev pub Settled : List (List ℕ) → Result Line Stop → Type 0

@@ -1,7 +1,7 @@
 -- What a line of the script asks for.
-use Rattle.std.specs.Prelude.{◌≡◌, ℕ, Bool, cond, List, [], reverse, length, drop, Some, None, Ok, Err, vec_items, codes, Option, Result, ◌==◌, nat_lt, slice_index, slice_index_or}
+use Rattle.std.specs.Prelude.{◌≡◌, ℕ, ◌+◌, ◌*◌, Bool, cond, List, [], reverse, length, drop, Some, None, Ok, Err, vec_items, codes, Option, Result, ◌==◌, nat_lt, slice_index, slice_index_or}
 use Rattle.std.specs.Str.{bytes_eq}
-use Rattle.words.specs.Numbers.{within, byte_of, together_of, decimal_of}
+use Rattle.words.specs.Numbers.{within, pair_of, byte_of, together_of, decimal_of}
 use Rattle.words.specs.Bytes.{bytes_from}
 use Rattle.frames.specs.Packet.{Packet}
 use Rattle.frames.specs.Calls.{width_of, packet_of}
@@ -56,6 +56,10 @@ pub data Request : Type 0 where
   field : (register : ℕ) → List ℕ → Request
   unit : (label : ℕ) → UnitRequest → Request
   call : (unit : ℕ) → Call → Request
+  -- a cell of the boxed units
+  make : Request
+  -- a fate for the frame on the air
+  carry : (fate start pattern : ℕ) → Request
 
 abbrev pub asked_of : UnitLine → UnitRequest
 asked_of unit_line.Bench = bench
@@ -83,6 +87,8 @@ asked (line.Read w n bs) = read (width_of w) n (vec_items bs)
 asked (line.Field r p) = field r (vec_items p)
 asked (line.Unit l u) = unit (place_of l) (asked_of u)
 asked (line.Call u c) = call u (called c)
+asked line.Make = make
+asked (line.Carry fate start pattern) = carry fate start pattern
 
 -- r is what x says
 abbrev pub Means : {X Y : Type 0} → (X → Y) → Result X Cannot → Result Y Cannot → Type 0
@@ -123,7 +129,9 @@ unit_form_named w =
     cond (bytes_eq w (codes "ce")) (Some form.Ce) (
     cond (bytes_eq w (codes "irq")) (Some form.Irq) (
     cond (bytes_eq w (codes "tick")) (Some form.Tick) (
-    cond (bytes_eq w (codes "hear")) (Some form.Hear) None)))))))))
+    cond (bytes_eq w (codes "hear")) (Some form.Hear) (
+    cond (bytes_eq w (codes "make")) (Some form.Make) (
+    cond (bytes_eq w (codes "carry")) (Some form.Carry) None)))))))))))
 
 abbrev pub form_named : List ℕ → Option Form
 form_named w =
@@ -174,6 +182,24 @@ level_of w = bit_of 3 want.Level w
 
 abbrev pub times_of : List ℕ → Result ℕ Cannot
 times_of w = number_in 1 65535 (Word 3 want.Times) (decimal_of w)
+
+abbrev pub fate_of : List ℕ → Result ℕ Cannot
+fate_of w = number_in 0 255 (Word 2 want.Fate) (decimal_of w)
+
+abbrev pub start_of : List ℕ → Result ℕ Cannot
+start_of w = number_in 0 65535 (Word 3 want.Start) (decimal_of w)
+
+abbrev pub joined : Option ℕ → Option ℕ → Option ℕ
+joined None l = None
+joined (Some h) None = None
+joined (Some h) (Some l) = Some (256 * h + l)
+
+-- four hexadecimal digits, the high one first
+abbrev pub four_digits : List ℕ → Option ℕ
+four_digits w = cond (length w == 4) (joined (pair_of (slice_index w 0) (slice_index w 1)) (pair_of (slice_index w 2) (slice_index w 3))) None
+
+abbrev pub pattern_of : List ℕ → Result ℕ Cannot
+pattern_of w = or_else (four_digits w) (Word 4 want.Pattern)
 
 abbrev pub register_of : List ℕ → Result ℕ Cannot
 register_of w = or_else (byte_of w) (Word 2 want.Register)
@@ -274,6 +300,19 @@ abbrev pub tick_line : List (List ℕ) → Result Request Cannot
 tick_line ws =
     at_least 2 form.Tick ws (at_most 3 form.Tick ws (then (unit_of (word_at ws 1)) (λ u. then (times_at ws) (λ n. Ok (call u (tick n))))))
 
+-- make
+abbrev pub make_line : List (List ℕ) → Result Request Cannot
+make_line ws = at_most 1 form.Make ws (Ok make)
+
+abbrev pub carry_with : List (List ℕ) → ℕ → Result Request Cannot
+carry_with ws n =
+    cond (length ws == 2) (Ok (carry n 0 0)) (then (start_of (word_at ws 2)) (λ s. then (pattern_of (word_at ws 3)) (λ p. Ok (carry n s p))))
+
+-- carry F, carry F START PATTERN; start bit and pattern are 0 where the line says nothing of them
+abbrev pub carry_line : List (List ℕ) → Result Request Cannot
+carry_line ws =
+    at_least 2 form.Carry ws (cond (length ws == 3) (Err (TooFew form.Carry)) (at_most 4 form.Carry ws (then (fate_of (word_at ws 1)) (carry_with ws))))
+
 abbrev pub line_as : Option Form → List (List ℕ) → Result Request Cannot
 line_as (Some form.Kind) ws = kind_line ws
 line_as (Some form.Pack) ws = pack_line ws
@@ -288,6 +327,8 @@ line_as (Some form.Command) ws = command_line ws
 line_as (Some form.Ce) ws = ce_line ws
 line_as (Some form.Irq) ws = irq_line ws
 line_as (Some form.Tick) ws = tick_line ws
+line_as (Some form.Make) ws = make_line ws
+line_as (Some form.Carry) ws = carry_line ws
 line_as None ws = Err (Word 1 want.Form)
 
 -- what a line asks for, or why it cannot be carried out: of the reasons that apply the one that the leftmost word gives,

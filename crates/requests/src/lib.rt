@@ -2,6 +2,7 @@
 #![tactic(auto)]
 
 mod calls;
+mod cells;
 mod label;
 mod limits;
 mod lines;

@@ -35,10 +35,18 @@ pub enum Line {
         label: Label,
         line: UnitLine,
     },
-    // is for the unit of a number: of all numbers that a cell's calls can name, those of the labels name a unit here
+    // is for the unit of a number: that of the cell, or else the one under the label
     Call {
         unit: u8,
         call: UnitCall,
+    },
+    // makes a cell of the boxed units
+    Make,
+    // the frame on the air has a fate
+    Carry {
+        fate: u8,
+        start: u16,
+        pattern: u16,
     },
 }
 
@@ -82,6 +90,8 @@ pub enum Form {
     Irq,
     Tick,
     Hear,
+    Make,
+    Carry,
 }
 
 // What a word is to be.
@@ -101,6 +111,9 @@ pub enum Wanted {
     Room,
     Level,
     Times,
+    Fate,
+    Start,
+    Pattern,
 }
 
 // Why a unit cannot do what a line asks of it.
@@ -112,6 +125,10 @@ pub enum Lack {
     IsBoxed,
     // it is on the bench, and the line is for a boxed unit
     OnBench,
+    // there is a cell, and the line is for a unit outside of one
+    InCell,
+    // there is a cell, and it has no such unit
+    NotInCell,
 }
 
 // Why a line cannot be carried out. A word is counted from 1; a unit is named by its number, of a label its place.
@@ -122,6 +139,9 @@ pub enum Cannot {
     TooMany(Form),
     PayloadLength,
     Unit { unit: u8, lack: Lack },
+    // there is a cell already
+    CellIsMade,
+    NoCell,
 }
 
 // Why a line goes no further: it cannot be carried out, or there is no memory, which ends the run.

@@ -7,6 +7,7 @@ ghost use Rattle.requests.specs.Lines.{form_named, kind_named, address_of, pid_o
 ghost use Rattle.requests.specs.Grammar.{Settled};
 
 use crate::calls::{ce_line, command_line, irq_line, tick_line};
+use crate::cells::{carry_line, make_line};
 use crate::limits::{bit_count, bit_of, number, second_of_two, unfit};
 use crate::lines::{Cannot, Form, Kind, Line, Stop, UnitLine, Wanted};
 use crate::units::{field_line, hear_line, load_line, plain_line};
@@ -31,6 +32,8 @@ fn form_of(word: &[u8]) -> Option<Form>
         b"irq" => Some(Form::Irq),
         b"tick" => Some(Form::Tick),
         b"hear" => Some(Form::Hear),
+        b"make" => Some(Form::Make),
+        b"carry" => Some(Form::Carry),
         _ => None,
     }
 }
@@ -134,6 +137,8 @@ fn words_line(heap: Global, words: &[&[u8]]) -> Result<Line, Stop>
         Form::Ce => ce_line(words),
         Form::Irq => irq_line(words),
         Form::Tick => tick_line(words),
+        Form::Make => make_line(words),
+        Form::Carry => carry_line(words),
     }
 }
 

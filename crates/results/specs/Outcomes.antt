@@ -11,14 +11,14 @@ use Rattle.results.specs.declared.carrying.Answer.TheVariants as answer
 use Rattle.requests.specs.declared.lines.Lack.{Lack}
 use Rattle.requests.specs.declared.lines.Cannot.{Cannot}
 use Rattle.requests.specs.declared.lines.Cannot.TheVariants.{Unit as Unable}
-use Rattle.requests.specs.Lines.{Request, kind, pack, read, field, unit, call}
+use Rattle.requests.specs.Lines.{Request, kind, pack, read, field, unit, call, make, carry}
 use Rattle.commands.specs.declared.refusal.Refusal.{Refusal}
 use Rattle.profile.specs.Profile.{if_sound, field_of}
 use Rattle.desk.specs.declared.slot.Units.{Units}
 use Rattle.desk.specs.declared.answer.Frame.{Frame}
 use Rattle.desk.specs.Answers.{Said, said_of, refused as unit_refused}
 use Rattle.desk.specs.Boxed.{frame_of}
-use Rattle.desk.specs.Desks.{kind_of, no_units, units_after, units_said, units_called, units_answer, KeptUnlessDone}
+use Rattle.desk.specs.Desks.{kind_of, no_units, units_after, units_said, units_called, units_answer, units_made, units_make_said, units_carried, units_carry_said, KeptUnlessDone}
 
 abbrev pub check_width : Kind → ℕ
 check_width Crc8 = 8
@@ -81,6 +81,10 @@ abbrev pub unit_outcome : ℕ → Result Said Lack → Result Outcome Cannot
 unit_outcome u (Ok s) = Ok (said s)
 unit_outcome u (Err lack) = Err (Unable u lack)
 
+abbrev pub cell_outcome : Result Said Cannot → Result Outcome Cannot
+cell_outcome (Ok s) = Ok (said s)
+cell_outcome (Err e) = Err e
+
 -- what a line gives with the units as they are and the check in force
 abbrev pub carried : Units → Request → Result Outcome Cannot
 carried us (kind named) = Ok done
@@ -89,6 +93,8 @@ carried us (read width n bytes) = Ok (read_outcome (kind_of us) width n bytes)
 carried us (field r p) = Ok (field_outcome r p)
 carried us (unit label q) = unit_outcome label (units_said us label q)
 carried us (call u c) = unit_outcome u (units_answer us u c)
+carried us make = cell_outcome (units_make_said us)
+carried us (carry fate start pattern) = cell_outcome (units_carry_said us fate start pattern)
 
 -- the units after it: another check drops them all
 abbrev pub units_after_request : Units → Request → Units
@@ -98,6 +104,8 @@ units_after_request us (read width n bytes) = us
 units_after_request us (field r p) = us
 units_after_request us (unit label q) = units_after us label q
 units_after_request us (call u c) = units_called us u c
+units_after_request us make = units_made us
+units_after_request us (carry fate start pattern) = units_carried us fate start pattern
 
 -- a line that cannot be carried out changes nothing, nor does a refusal, nor what only looks
 abbrev pub Kept : Result Outcome Cannot → Units → Units → Type 0

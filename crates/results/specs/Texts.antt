@@ -5,7 +5,7 @@ use Rattle.frames.specs.Packet.{Packet}
 use Rattle.requests.specs.declared.lines.Form.{Form}
 use Rattle.requests.specs.declared.lines.Form.TheVariants as form
 use Rattle.requests.specs.declared.lines.Cannot.{Cannot}
-use Rattle.requests.specs.declared.lines.Cannot.TheVariants.{Word, TooFew, TooMany, PayloadLength, Unit as Unable}
+use Rattle.requests.specs.declared.lines.Cannot.TheVariants.{Word, TooFew, TooMany, PayloadLength, Unit as Unable, CellIsMade, NoCell}
 use Rattle.requests.specs.declared.lines.Wanted.{Wanted}
 use Rattle.requests.specs.declared.lines.Wanted.TheVariants as want
 use Rattle.results.specs.Outcomes.{Outcome, done, frame, heard, nothing, refused, looked_up, absent, said}
@@ -56,9 +56,11 @@ usage_text form.Ce = codes "ce U 0 or ce U 1"
 usage_text form.Irq = codes "irq U"
 usage_text form.Tick = codes "tick U or tick U N"
 usage_text form.Hear = codes "hear U BITS BYTES"
+usage_text form.Make = codes "make"
+usage_text form.Carry = codes "carry F or carry F START PATTERN"
 
 abbrev pub wanted_text : Wanted → List ℕ
-wanted_text want.Form = codes "a line begins with kind, pack, read, bench, load, field, check, box, command, ce, irq, tick or hear"
+wanted_text want.Form = codes "a line begins with kind, pack, read, bench, load, field, check, box, command, ce, irq, tick, hear, make or carry"
 wanted_text want.Kind = codes "a kind is crc8 or crc16"
 wanted_text want.Address = codes "an address is 3 to 5 bytes, 6, 8 or 10 hexadecimal digits together"
 wanted_text want.Pid = codes "a PID is 0 to 3"
@@ -72,6 +74,9 @@ wanted_text want.Register = codes "a register is two hexadecimal digits"
 wanted_text want.Room = codes "a reply buffer is /0 to /255"
 wanted_text want.Level = codes "a level is 0 or 1"
 wanted_text want.Times = codes "a count of ticks is 1 to 65535"
+wanted_text want.Fate = codes "a fate is 0 to 255"
+wanted_text want.Start = codes "a start bit is 0 to 65535"
+wanted_text want.Pattern = codes "a pattern is four hexadecimal digits"
 
 abbrev pub word_text : ℕ → Wanted → List ℕ
 word_text word wanted = codes "word " ++ (decimal_shown word ++ (codes ": " ++ wanted_text wanted))
@@ -82,6 +87,8 @@ why_text (TooFew form) = codes "too few words: " ++ usage_text form
 why_text (TooMany form) = codes "too many words: " ++ usage_text form
 why_text PayloadLength = codes "over 32 payload bytes"
 why_text (Unable u lack) = lack_text u lack
+why_text CellIsMade = codes "there is a cell already; a line kind ends it"
+why_text NoCell = codes "there is no cell; a line make makes it"
 
 abbrev pub cannot_text : Cannot → List ℕ
 cannot_text cannot = codes "cannot (" ++ (why_text cannot ++ codes ")")

@@ -1,13 +1,15 @@
 // Lines carried out.
 ghost use Rattle.std.specs.Prelude.{◌≡◌};
 ghost use Rattle.frames.specs.Calls.{width_of, packet_of, Packed, Reads};
-ghost use Rattle.requests.specs.Lines.{asked, Means};
+ghost use Rattle.requests.specs.Lines.{asked, Gives};
+ghost use Rattle.desk.specs.Making.{IfSettled};
 ghost use Rattle.results.specs.Outcomes.{check_width, check_meaning, outcome_of, pack_outcome, read_outcome, field_outcome, carried, units_after_request, Kept};
 
 use checks::{Crc8, Crc16};
 use desk::{Frame, UnitResult, Units};
 use frames::{AddressWidth, Fields, Heard, pack, read};
-use requests::{Cannot, Kind, Line};
+use requests::{Cannot, Kind, Line, Stop};
+use std::alloc::Global;
 
 // What carrying out a line gives. What a profile has for a register is a part of the line.
 #[derive(Drop)]
@@ -63,9 +65,9 @@ fn packed<'a>(kind: Kind, fields: &Fields) -> Answer<'a>
 }
 
 // Apart from `carry_out`, so that what stays as it was follows from one promise and not once for each line.
-fn done_with<'a>(units: &mut Units, line: &'a Line) -> Result<Answer<'a>, Cannot>
-    ensures answer { Means outcome_of result (carried units.old (asked line.now)) }
-    ensures units { units.new ≡ units_after_request units.old (asked line.now) }
+fn done_with<'a>(units: &mut Units, heap: Global, line: &'a Line) -> Result<Answer<'a>, Stop>
+    ensures answer { Gives outcome_of result (carried units.old (asked line.now)) }
+    ensures units { IfSettled result (units.new ≡ units_after_request units.old (asked line.now)) }
 {
     match line {
         Line::Kind(kind) => {
@@ -99,14 +101,21 @@ fn done_with<'a>(units: &mut Units, line: &'a Line) -> Result<Answer<'a>, Cannot
                 .map_err(|lack| Cannot::Unit { unit, lack });
             Ok(Answer::Unit(result?))
         }
+        Line::Make => Ok(Answer::Unit(units.make(heap)?)),
+        Line::Carry {
+            fate,
+            start,
+            pattern,
+        } => Ok(Answer::Unit(units.carry(*fate, *start, *pattern)?)),
     }
 }
 
-// Carries out a line on the units, with the check in force; or says why it cannot be carried out.
-pub fn carry_out<'a>(units: &mut Units, line: &'a Line) -> Result<Answer<'a>, Cannot>
-    ensures answer { Means outcome_of result (carried units.old (asked line.now)) }
-    ensures units { units.new ≡ units_after_request units.old (asked line.now) }
-    ensures kept { Kept (carried units.old (asked line.now)) units.old units.new }
+// Carries out a line on the units and the cell, with the check in force; or says why it cannot be carried out. Only a line that makes
+// a cell needs memory.
+pub fn carry_out<'a>(units: &mut Units, heap: Global, line: &'a Line) -> Result<Answer<'a>, Stop>
+    ensures answer { Gives outcome_of result (carried units.old (asked line.now)) }
+    ensures units { IfSettled result (units.new ≡ units_after_request units.old (asked line.now)) }
+    ensures kept { IfSettled result (Kept (carried units.old (asked line.now)) units.old units.new) }
 {
-    done_with(units, line)
+    done_with(units, heap, line)
 }

@@ -68,6 +68,8 @@ fn usage(form: Form) -> &'static str
         Form::Irq => "irq U",
         Form::Tick => "tick U or tick U N",
         Form::Hear => "hear U BITS BYTES",
+        Form::Make => "make",
+        Form::Carry => "carry F or carry F START PATTERN",
     }
 }
 
@@ -77,7 +79,7 @@ fn wish(wanted: Wanted) -> &'static str
 {
     match wanted {
         Wanted::Form =>
-            "a line begins with kind, pack, read, bench, load, field, check, box, command, ce, irq, tick or hear",
+            "a line begins with kind, pack, read, bench, load, field, check, box, command, ce, irq, tick, hear, make or carry",
         Wanted::Kind => "a kind is crc8 or crc16",
         Wanted::Address => "an address is 3 to 5 bytes, 6, 8 or 10 hexadecimal digits together",
         Wanted::Pid => "a PID is 0 to 3",
@@ -91,6 +93,9 @@ fn wish(wanted: Wanted) -> &'static str
         Wanted::Room => "a reply buffer is /0 to /255",
         Wanted::Level => "a level is 0 or 1",
         Wanted::Times => "a count of ticks is 1 to 65535",
+        Wanted::Fate => "a fate is 0 to 255",
+        Wanted::Start => "a start bit is 0 to 65535",
+        Wanted::Pattern => "a pattern is four hexadecimal digits",
     }
 }
 
@@ -108,6 +113,10 @@ impl fmt::Display for Unable {
             Cannot::TooMany(form) => write!(f, "cannot (too many words: {})", usage(form)),
             Cannot::PayloadLength => f.write_str("cannot (over 32 payload bytes)"),
             Cannot::Unit { unit, lack } => write!(f, "cannot ({})", Lacking { unit, lack }),
+            Cannot::CellIsMade => {
+                f.write_str("cannot (there is a cell already; a line kind ends it)")
+            }
+            Cannot::NoCell => f.write_str("cannot (there is no cell; a line make makes it)"),
         }
     }
 }

@@ -5,7 +5,7 @@ use Rattle.requests.specs.declared.lines.Kind.{Kind}
 use Rattle.requests.specs.declared.lines.Kind.TheVariants.{Crc16}
 use Rattle.requests.specs.declared.lines.Cannot.{Cannot}
 use Rattle.script.specs.declared.running.Console.{Console}
-use Rattle.requests.specs.Lines.{UnitRequest, bench, load, check, box, hear, Request, kind, pack, read, field, unit, call, line_of}
+use Rattle.requests.specs.Lines.{UnitRequest, bench, load, check, box, hear, Request, kind, pack, read, field, unit, call, make, carry, line_of}
 use Rattle.desk.specs.declared.slot.Units.{Units}
 use Rattle.desk.specs.Desks.{kind_of, no_units}
 use Rattle.answers.specs.Profiles.{profile_rows}
@@ -40,6 +40,8 @@ explained k (read width n bytes) o = rows_found k width n bytes
 explained k (field r p) o = profile_rows p
 explained k (unit label q) o = unit_explained q
 explained k (call u c) o = []
+explained k make o = []
+explained k (carry fate start pattern) o = []
 
 abbrev pub answer_text : Kind → Request → Outcome → List ℕ
 answer_text k q o = result_text o ++ (codes "\n" ++ explained k q o)

@@ -3,6 +3,8 @@
 
 mod feeding;
 mod running;
+mod summary;
 
 pub use feeding::{Halt, feed};
 pub use running::Console;
+pub use summary::Summary;

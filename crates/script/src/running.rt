@@ -6,6 +6,7 @@ ghost use Rattle.results.specs.Outcomes.{outcome_of};
 ghost use Rattle.results.specs.Texts.{cannot_text};
 ghost use Rattle.script.specs.Console.{explained, answer_text, request_text, line_text, after_request, after_line, started, printed, after};
 
+use crate::summary::Summary;
 use answers::ProfileRows;
 use desk::Units;
 use requests::{Cannot, Kind, Line, Stop, UnitLine, parse};
@@ -88,6 +89,11 @@ impl Console {
         (self.carried, self.unable)
     }
 
+    // What the calls on the cell came to, for people, if there is a cell.
+    pub fn summary(&self) -> Summary<'_> {
+        Summary(&self.units)
+    }
+
     fn refuse(&mut self, cannot: Cannot, out: &mut String) -> Result<(), AllocError>
         ensures state { OnOk result (self.new ≡ after_line self.old (Err cannot)) }
         ensures text { OnOk result (string_bytes out.new ≡ string_bytes out.old ++ (cannot_text cannot ++ codes "\n")) }
@@ -96,18 +102,20 @@ impl Console {
         writeln!(out, "{}", Unable(cannot))
     }
 
-    fn carry(&mut self, line: &Line, out: &mut String) -> Result<(), AllocError>
+    fn carry(&mut self, heap: Global, line: &Line, out: &mut String) -> Result<(), AllocError>
         ensures state { OnOk result (self.new ≡ after_request self.old (asked line.now)) }
         ensures text { OnOk result (string_bytes out.new ≡ string_bytes out.old ++ (request_text self.old.units (asked line.now))) }
     {
         let kind = self.units.kind();
-        match carry_out(&mut self.units, line) {
+        match carry_out(&mut self.units, heap, line) {
             Ok(answer) => {
                 self.carried = self.carried.saturating_add(1);
                 let answer = &answer;
                 write!(out, "{answer}\n{}", Explained { kind, line, answer })
             }
-            Err(cannot) => self.refuse(cannot, out),
+            Err(Stop::Cannot(cannot)) => self.refuse(cannot, out),
+            // as in `answer`
+            Err(Stop::Memory) => Err(AllocError),
         }
     }
 
@@ -116,7 +124,7 @@ impl Console {
         ensures text { OnOk result (string_bytes out.new ≡ string_bytes out.old ++ (line_text self.old.units (line_of (texts words.now)))) }
     {
         match parse(heap, words) {
-            Ok(line) => self.carry(&line, out),
+            Ok(line) => self.carry(heap, &line, out),
             Err(Stop::Cannot(cannot)) => self.refuse(cannot, out),
             // no `?`: of the two reasons why a line goes no further only this one ends the run; `Stop` is plain data and carries no
             // `AllocError`, which says nothing more than its name

@@ -21,7 +21,7 @@ mod tests {
     fn first_words(rt: HostRuntime) {
         let heap = rt.alloc();
         let why: &[u8] =
-            b"1: cannot (word 1: a line begins with kind, pack, read, bench, load, field, check, box, command, ce, irq, tick or hear)\n";
+            b"1: cannot (word 1: a line begins with kind, pack, read, bench, load, field, check, box, command, ce, irq, tick, hear, make or carry)\n";
         gives(&rt, heap, b"foo 1\n", why, 1);
         gives(&rt, heap, b"\xff\xfe\x00\n", why, 1);
         gives(&rt, heap, b"PACK E7E7E7 0 0\n", why, 1);
@@ -413,6 +413,66 @@ mod tests {
             b"kind crc8\nbench 0\ncommand 0 20 09\ncommand 0 22 01\ncommand 0 31 01\nbox 0\nhear 0 73 AA E7 E7 E7 E7 E7 05 00 CA 00\ncommand 0 20 0B\ntick 0 200\nce 0 1\ntick 0 13\nhear 0 73 AA E7 E7 E7 E7 E7 05 00 CA 00\nhear 0 73 AA E7 E7 E7 E7 E7 05 00 CA 00\nhear 0 73 AA E7 E7 E7 E7 E7 05 01 CA 00\nhear 0 73 AA E7 E7 E7 E7 E7 05 80 C0 80\nhear 0 72 AA E7 E7 E7 E7 E7 05 00 CA\nhear 0 73 AA E7 E7 E7 E7 E7 05 00 CA\nirq 0\ncommand 0 61\ncommand 0 61\ncommand 0 61\n",
             b"1: ok\n2: ok\n3: ok 0E\n4: ok 0E\n5: ok 0E\n6: ok\n7: ok\n8: ok 0E\n9: ok 200\n10: ok\n11: ok 13\n12: ok frame 65 AA E7 E7 E7 E7 E7 01 32 00\n13: ok frame 65 AA E7 E7 E7 E7 E7 01 32 00\n14: ok\n15: ok\n16: ok\n17: refused 18 (bits beyond the frame's bytes)\n18: ok low\n19: ok 40 01\n20: ok 40 01\n21: refused 5 (the RX queue is empty)\n",
             0,
+        );
+    }
+
+    // Words of the lines for a cell.
+    #[test]
+    fn cell_words(rt: HostRuntime) {
+        let heap = rt.alloc();
+        gives(
+            &rt,
+            heap,
+            b"make 1\ncarry\ncarry 1 2\ncarry 1 2 0000 5\n",
+            b"1: cannot (too many words: make)\n2: cannot (too few words: carry F or carry F START PATTERN)\n3: cannot (too few words: carry F or carry F START PATTERN)\n4: cannot (too many words: carry F or carry F START PATTERN)\n",
+            4,
+        );
+        gives(
+            &rt,
+            heap,
+            b"carry 256\ncarry x 0 0000\ncarry 3 65536 8000\ncarry 3 0 800\ncarry 3 0 80000\ncarry 3 0 80g0\n",
+            b"1: cannot (word 2: a fate is 0 to 255)\n2: cannot (word 2: a fate is 0 to 255)\n3: cannot (word 3: a start bit is 0 to 65535)\n4: cannot (word 4: a pattern is four hexadecimal digits)\n5: cannot (word 4: a pattern is four hexadecimal digits)\n6: cannot (word 4: a pattern is four hexadecimal digits)\n",
+            6,
+        );
+    }
+
+    // A cell is made once its units fit; then lines are for it, until a kind ends it. After a refusal the units stay.
+    #[test]
+    fn makes(rt: HostRuntime) {
+        let heap = rt.alloc();
+        gives(
+            &rt,
+            heap,
+            b"make\nbench 0\ncommand 0 20 0D\ncommand 0 22 01\ncommand 0 31 01\nbox 0\nmake\nirq 0\nbench 1\ncommand 1 20 0C\nmake\nbox 1\nbench 3\nbox 3\ncarry 1\nmake\nmake\n",
+            b"1: refused cell 0 13 (the cell cannot be made)\n2: ok\n3: ok 0E\n4: ok 0E\n5: ok 0E\n6: ok\n7: refused cell 1 13 (the cell cannot be made)\n8: ok high\n9: ok\n10: ok 0E\n11: refused cell 1 13 (the cell cannot be made)\n12: ok\n13: ok\n14: ok\n15: cannot (there is no cell; a line make makes it)\n16: ok\n17: cannot (there is a cell already; a line kind ends it)\n",
+            2,
+        );
+        gives(
+            &rt,
+            heap,
+            b"bench 0\ncommand 0 20 0D\ncommand 0 22 01\ncommand 0 31 01\nbox 0\nbench 1\ncommand 1 20 0C\nbox 1\nbench 3\nbox 3\nmake\nbench 5\nload 0\ncheck 1\nbox 3\nhear 0 0\nirq 3\nirq 1\ncommand 3 FF\nce 200 1\ntick 3 5\ncommand 3\ncarry 1\nkind crc8\ncarry 1\nirq 0\n",
+            b"1: ok\n2: ok 0E\n3: ok 0E\n4: ok 0E\n5: ok\n6: ok\n7: ok 0E\n8: ok\n9: ok\n10: ok\n11: ok\n12: cannot (unit 5 is out of reach; a cell is made, and the line is for a unit outside of one)\n13: cannot (unit 0 is out of reach; a cell is made, and the line is for a unit outside of one)\n14: cannot (unit 1 is out of reach; a cell is made, and the line is for a unit outside of one)\n15: cannot (unit 3 is out of reach; a cell is made, and the line is for a unit outside of one)\n16: cannot (unit 0 is out of reach; a cell is made, and the line is for a unit outside of one)\n17: cannot (unit 3 is no unit of the cell)\n18: ok high\n19: refused cell 3 14 (no such unit)\n20: refused cell 200 14 (no such unit)\n21: refused cell 3 14 (no such unit)\n22: refused cell 3 14 (no such unit)\n23: refused cell 0 16 (the air is empty)\n24: ok\n25: cannot (there is no cell; a line make makes it)\n26: cannot (unit 0 is not there; a line bench makes one, 0 to 7)\n",
+            8,
+        );
+    }
+
+    // With the 8-bit check a pattern has only 8 bits; the last of 73 bits is changed, and the frame is sent again and taken. Then two
+    // payloads are flushed.
+    #[test]
+    fn carries(rt: HostRuntime) {
+        let heap = rt.alloc();
+        let script: &[u8] =
+            b"kind crc8\nbench 0\ncommand 0 20 09\ncommand 0 22 01\ncommand 0 31 01\nbox 0\nbench 1\nbox 1\nmake\ncommand 0 20 0B\ntick 0 200\nce 0 1\ntick 0 13\ncommand 1 20 0A\ntick 1 200\nce 1 1\ncommand 1 A0 01\ntick 1 20\ntick 0\ncarry 3 8 0001\ncarry 3 65535 8000\ncarry 3 0 0000\ncarry 255\ncarry 3 72 8000\ntick 1 25\ncarry 1\ncarry 1\ncommand 1 FF\ncommand 0 61\nce 1 0\ncommand 1 A0 02\ncommand 1 A0 03\ncommand 1 E1\n";
+        let expected: &[u8] =
+            b"1: ok\n2: ok\n3: ok 0E\n4: ok 0E\n5: ok 0E\n6: ok\n7: ok\n8: ok\n9: ok\n10: ok 0E\n11: ok 200\n12: ok\n13: ok 13\n14: ok 0E\n15: ok 200\n16: ok\n17: ok 0E\n18: ok 14 frame 73 AA E7 E7 E7 E7 E7 05 00 CA 00\n19: refused cell 0 15 (the air holds a frame)\n20: refused cell 0 17 (the fate is not allowed)\n21: refused cell 0 17 (the fate is not allowed)\n22: refused cell 0 17 (the fate is not allowed)\n23: refused cell 0 17 (the fate is not allowed)\n24: ok\n25: ok 25 frame 73 AA E7 E7 E7 E7 E7 05 00 CA 00\n26: ok frame 65 AA E7 E7 E7 E7 E7 01 32 00\n27: ok\n28: ok 2E\n29: ok 40 01\n30: ok\n31: ok 2E\n32: ok 2E\n33: ok 2E\n";
+        gives(&rt, heap, script, expected, 0);
+        let mut console = Console::new();
+        let mut out: Vec<u8> = Vec::new(heap);
+        assert!(rt; feed(&mut console, heap, script, &mut out).is_ok());
+        let summary = format!(in heap; "{}", console.summary());
+        assert!(rt;
+            summary.is_ok_and(|text| text.as_str()
+                == "     sender 1: 3 written, 1 sent, 0 given up, 2 flushed, 0 still waiting\n     read on pipes 0 to 5: 1 0 0 0 0 0\n")
         );
     }
 }

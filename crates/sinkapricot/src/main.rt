@@ -58,6 +58,7 @@ fn feed_all<W: Write>(rt: &HostRuntime, console: &mut Console, out: &mut W) -> R
 
 fn close<W: Write>(console: &Console, out: &mut W) -> io::Result<()> {
     let (carried, unable) = console.tally();
+    write!(out, "{}", console.summary())?;
     writeln!(
         out,
         "done: {carried} lines carried out, {unable} could not be"
