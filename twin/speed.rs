@@ -1,4 +1,4 @@
-// Measures the engine beside the twin: `speed [ROUNDS]`. Each line of the table is one loop of crates/embed/src/repeating.rs, done
+// Measures the engine beside the twin: `speed [ROUNDS]`, and `speed hour` for a whole hour of six senders, once. Each line of the table is one loop of crates/embed/src/repeating.rs, done
 // by the engine and by the twin in turn, so many rounds; the fastest round of each counts. Both must answer the same number.
 #[path = "twin.rs"]
 #[allow(dead_code)]
@@ -297,7 +297,18 @@ fn measure(row: &Row, rounds: u64) -> bool {
 }
 
 fn main() {
-    let rounds = std::env::args().nth(1).map_or(9, |arg| arg.parse().expect("a number"));
+    let arg = std::env::args().nth(1);
+    if arg.as_deref() == Some("hour") {
+        // 360,000,000 ticks of 10 µs, and a payload of each sender every minute
+        let hour = Row {
+            what: "an hour: a tick of each of 6 senders, a payload every minute",
+            turns: 360_000_000,
+            ours: |n| ours::sinkapricot_repeat_round(n, 6_000_000),
+            twins: |n| round(n, 6_000_000),
+        };
+        std::process::exit(i32::from(!measure(&hour, 1)));
+    }
+    let rounds = arg.map_or(9, |arg| arg.parse().expect("a number"));
     let rows = [
         Row {
             what: "check of 8 bits, 321 bits",
