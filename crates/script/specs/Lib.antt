@@ -1,2 +1,3 @@
 pub mod Console
 pub mod Feeding
+pub mod Summary

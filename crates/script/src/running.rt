@@ -90,7 +90,9 @@ impl Console {
     }
 
     // What the calls on the cell came to, for people, if there is a cell.
-    pub fn summary(&self) -> Summary<'_> {
+    pub fn summary(&self) -> Summary<'_>
+        ensures { result.0.now ≡ self.now.units }
+    {
         Summary(&self.units)
     }
 
