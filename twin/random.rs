@@ -2,8 +2,8 @@
 // The maker runs its own lines through a console of twin.rs, to know which frames came and when a
 // scene has gone wrong; the script is plain text and does not depend on who carries it out.
 //
-// `script` keeps away from places 5, 6 and 10 of UNCLEAR.md and, but for rare chance, from place 3;
-// `script_with(seed, lines, true)` has these too.
+// `script_with(seed, lines, true)` also has what the documents say only by the way: numbers and blanks
+// in odd spellings, and a unit that is used for its interrupt masks alone before a cell is made.
 
 #[path = "twin.rs"]
 #[allow(dead_code)]

@@ -1,5 +1,6 @@
-// Measures the engine beside the twin: `speed [ROUNDS]`, and `speed hour` for a whole hour of six senders, once. Each line of the table is one loop of crates/embed/src/repeating.rs, done
-// by the engine and by the twin in turn, so many rounds; the fastest round of each counts. Both must answer the same number.
+// Measures the engine beside the twin: `speed [ROUNDS]` (9 where none are named), and `speed hour` for a whole hour of six
+// senders, once. Each line of the table is one loop of crates/embed/src/repeating/, done by the engine and by the twin in turn,
+// so many rounds; the fastest round of each counts. Both must answer the same number.
 #[path = "twin.rs"]
 #[allow(dead_code)]
 mod twin;
