@@ -1,5 +1,5 @@
 -- The refusals of a cell.
-use Rattle.std.specs.Prelude.{ℕ, cond, None, Ok, Err, Option, Result, nat_lt}
+use Rattle.std.specs.Prelude.{ℕ, None, Ok, Err, Option, Result}
 use Rattle.registers.specs.declared.register.Register.{Register}
 use Rattle.commands.specs.declared.refusal.Refusal.{Refusal as UnitRefusal}
 use Rattle.commands.specs.Refusals.{numbered}
@@ -18,9 +18,14 @@ cause_number AirHoldsFrame = (15, None)
 cause_number AirEmpty = (16, None)
 cause_number FateNotAllowed = (17, None)
 
--- from 13 on it is the cell that refuses, below it the unit
+-- whether it is the unit that refuses, or the cell itself
 abbrev pub layer_of : Cause → Layer
-layer_of e = cond (nat_lt (cause_number e).0 13) unit_layer cell_layer
+layer_of (of_unit e) = unit_layer
+layer_of CannotBeMade = cell_layer
+layer_of NoSuchUnit = cell_layer
+layer_of AirHoldsFrame = cell_layer
+layer_of AirEmpty = cell_layer
+layer_of FateNotAllowed = cell_layer
 
 abbrev pub refusal_of : ℕ → Cause → Refusal
 refusal_of u e = record { unit = u; cause = e }

@@ -35,6 +35,10 @@ fn tick<C: Check>(state: &mut State, unit: u8) -> Result<Option<Frame>, UnitRefu
     ensures answer { result ≡ unless (tick_refusal state.old 42) (air_of unit (tick_bits C.Check.W C.meaning state.old)) }
     ensures state { state.new ≡ tick_after state.old 42 }
 {
+    // no bytes are made for a tick that sends nothing
+    if state.tick_if_uneventful() {
+        return Ok(None);
+    }
     let mut bytes = [0; LONGEST_FRAME];
     let count = state.tick::<C>(&mut bytes)?;
     Ok(Frame::aired(unit, count, bytes))

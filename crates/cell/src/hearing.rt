@@ -48,8 +48,9 @@ fn hear_at<C: Check>(place: &mut Option<State>, unit: usize, frame: &Frame) -> O
         return None;
     }
     match place {
-        None => None,
-        Some(state) => hear::<C>(state, frame),
+        // most units do not listen when a frame comes
+        Some(state) if state.listens() => hear::<C>(state, frame),
+        _ => None,
     }
 }
 

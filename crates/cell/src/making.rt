@@ -16,7 +16,7 @@ use crate::refusal::{Cause, Refusal};
 use bench::Bench;
 use checks::Check;
 use commands::Flags;
-use frames::Pid;
+use frames::{Pid, known_bytes};
 use modes::{Core, Mode};
 use registers::{Pipe, Register, Registers, stands};
 use std::marker::PhantomData;
@@ -176,14 +176,6 @@ fn unit_at_fault<C: Check>(units: &[Boxed<C>]) -> Option<u8>
 }
 
 // ---- the cell that is made
-
-// Nothing is done: the contract says that what a slice holds are bytes.
-fn known_bytes(bytes: &[u8])
-    ensures { (i : ℕ) → slice_index bytes.now i < 256 }
-{
-    // a call that is given the slice, after which the proof knows what its type keeps
-    let _first = bytes.first();
-}
 
 // Nothing is done: the contract says what the types of a unit's parts keep.
 fn known(unit: &State)

@@ -8,9 +8,6 @@ use registers::Register;
 use std::error::Error;
 use std::fmt;
 
-// The first number that is the cell's own; the contract says the number.
-const FIRST_OF_CELL: u8 = 13;
-
 impl Cause {
     // The number that stands for the cause.
     pub fn number(self) -> u8
@@ -38,14 +35,13 @@ impl Cause {
 }
 
 impl Refusal {
-    // Which layer refuses: the cell from 13 on, else the unit.
+    // Which layer refuses: the unit, or the cell itself. Not by the number: 18 is a unit's too.
     pub fn layer(self) -> Layer
         ensures { result ≡ layer_of self.cause }
     {
-        if self.cause.number() < FIRST_OF_CELL {
-            Layer::Unit
-        } else {
-            Layer::Cell
+        match self.cause {
+            Cause::Unit(_) => Layer::Unit,
+            _ => Layer::Cell,
         }
     }
 }

@@ -57,12 +57,13 @@ fn big_endian(bytes: &[u8]) -> u64
     number
 }
 
-// What 64 bits make of the register 0.
-fn from_none<P: Parameters>(number: u64) -> u16
-    ensures { result ≡ run P.WIDTH P.POLYNOMIAL 0 (word 64 number) }
+// What the low bytes of a number, so many, make of the register 0.
+fn from_none<P: Parameters>(number: u64, bytes: usize) -> u16
+    requires { bytes ≤ 8 }
+    ensures { result ≡ run P.WIDTH P.POLYNOMIAL 0 (word (8 * bytes) number) }
 {
     let mut register = 0;
-    for behind in 0..8 {
+    for behind in 0..bytes {
         register ^= P::entry((number >> (8 * behind) & 0xFF) as u8, behind);
     }
     register
@@ -78,7 +79,7 @@ fn steps<P: Parameters>(register: u16, number: u64, count: usize) -> u16
     let moved = u128::from(register) << count;
     let met = (moved >> P::WIDTH) as u64 ^ number;
     let kept = moved & u128::MAX >> (128 - P::WIDTH);
-    from_none::<P>(met) ^ kept as u16
+    from_none::<P>(met, count.div_ceil(8)) ^ kept as u16
 }
 
 // The register after the first n bits, after all if there are fewer.

@@ -12,6 +12,7 @@ use crate::entry::{Entry, Outcome};
 use crate::reply::Reply;
 use cell::{Cell, Refusal};
 use checks::Check;
+use frames::known_bytes;
 
 impl Reply {
     pub fn bytes(&self) -> &[u8]
@@ -31,14 +32,6 @@ impl<'a> Entry<'a> {
             outcome: None,
         }
     }
-}
-
-// Nothing is done: the contract says that what a slice holds are bytes.
-fn known_bytes(bytes: &[u8])
-    ensures { Bytes bytes.now }
-{
-    // a call that is given the slice, after which the proof knows what its type keeps
-    let _first = bytes.first();
 }
 
 // What a call without a reply answered.

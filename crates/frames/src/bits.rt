@@ -1,10 +1,11 @@
 // Numbers and bytes in the bits of a buffer, whole bytes at a time. Each call takes its place `at`, and there is no cursor that
 // keeps one: the callers jump to the places that a frame's layout gives. A number of at most 16 bits is in up to three bytes;
 // what it is to each of them has no loop, so that a place and a count that the caller knows leave one byte's shift and mask.
-ghost use Rattle.std.specs.Prelude.{◌≡◌, ℕ, ◌+◌, ◌-◌, ◌*◌, ◌%◌, ◌^◌, ◌<◌, ◌≤◌, ◌++◌, false, length, take, drop, slice_index, slice_set};
+ghost use Rattle.std.specs.Prelude.{◌≡◌, ℕ, ◌+◌, ◌-◌, ◌*◌, ◌%◌, ◌^◌, ◌<◌, ◌≤◌, ◌++◌, false, length, take, drop, slice_set};
 ghost use Rattle.std.proofs.Math.Seq.{paste};
 ghost use Rattle.checks.specs.Bits.{word, bits};
 ghost use Rattle.frames.specs.Octets.{number, octets, HasBits};
+ghost use Rattle.frames.specs.Packet.{Bytes};
 
 use checks::bit_at;
 
@@ -161,8 +162,8 @@ pub(crate) fn get_octets(buf: &[u8], at: usize, out: &mut [u8])
 }
 
 // Nothing is done: the contract says that what a slice holds are bytes.
-pub(crate) fn known_bytes(buf: &[u8])
-    ensures { (i : ℕ) → slice_index buf.now i < 256 }
+pub fn known_bytes(buf: &[u8])
+    ensures { Bytes buf.now }
 {
     // a call that is given the slice, after which the proof knows what its type keeps
     let _first = buf.first();

@@ -11,6 +11,7 @@ mod packing;
 mod reading;
 mod refusal;
 
+pub use bits::known_bytes;
 pub use damage::change;
 pub use fields::{Address, AddressWidth, Fields, Heard, OutOfRange, Payload, Pid, Refusal};
 pub use laws::{damage_shows, read_back, worked_cases};

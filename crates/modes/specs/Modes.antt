@@ -106,6 +106,32 @@ sends_in (Waiting left) role retry c = not (nat_lt 1 left) && nat_lt c.counts.ag
 abbrev pub sends : Role → Retry → Core → Bool
 sends role retry c = sends_in c.mode role retry c
 
+-- whether the tick only counts down in its mode, or changes nothing: neither role nor retries then matter
+abbrev pub uneventful_in : Mode → Bool → Core → Bool
+uneventful_in Shutdown waiting c = true
+uneventful_in (Starting left) waiting c = nat_lt 1 left
+uneventful_in Standby waiting c = true
+uneventful_in IdleTx waiting c = not (waiting && not c.flags.max_rt)
+uneventful_in (Tuning left) waiting c = nat_lt 1 left
+uneventful_in Rx waiting c = true
+uneventful_in (Waiting left) waiting c = nat_lt 1 left
+
+abbrev pub uneventful : Bool → Core → Bool
+uneventful waiting c = uneventful_in c.mode waiting c
+
+-- what is left then
+abbrev pub elapsed_in : Mode → Core → Core
+elapsed_in Shutdown c = c
+elapsed_in (Starting left) c = in_mode c (Starting (left - 1))
+elapsed_in Standby c = c
+elapsed_in IdleTx c = c
+elapsed_in (Tuning left) c = in_mode c (Tuning (left - 1))
+elapsed_in Rx c = c
+elapsed_in (Waiting left) c = in_mode c (Waiting (left - 1))
+
+abbrev pub elapsed : Core → Core
+elapsed c = elapsed_in c.mode c
+
 -- ---- the level of CE
 
 abbrev pub raised : Mode → Role → Mode

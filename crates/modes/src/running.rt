@@ -1,5 +1,5 @@
-ghost use Rattle.std.specs.Prelude.{◌≡◌};
-ghost use Rattle.modes.specs.Modes.{at_rest, wait_ticks, begun, given_up, ticked, sends, leveled, acknowledged, flushed, reconfigured, is_waiting, is_rx, busy};
+ghost use Rattle.std.specs.Prelude.{◌≡◌, true, false, cond};
+ghost use Rattle.modes.specs.Modes.{at_rest, wait_ticks, begun, given_up, ticked, sends, uneventful, elapsed, leveled, acknowledged, flushed, reconfigured, is_waiting, is_rx, busy};
 
 use crate::parts::{Core, Mode, Retry, Role};
 use registers::stands;
@@ -80,33 +80,50 @@ impl Core {
         self.rest(role);
     }
 
+    // One tick, if it is uneventful: nothing changes but a count, and it is done without role and retries. The answer says whether it
+    // is; any other is not done. The countdown is written out for each mode: of an or-pattern over the three that binds `left` by `&mut`
+    // it is not proved that what is written through `left` is the mode that stands then.
+    #[inline]
+    pub fn tick_if_uneventful(&mut self, waiting: bool) -> bool
+        ensures answer { result ≡ uneventful waiting self.old }
+        ensures after { self.new ≡ cond (uneventful waiting self.old) (elapsed self.old) self.old }
+        ensures law { (role : Role) (retry : Retry) → uneventful waiting self.old ≡ true → (ticked role retry waiting self.old ≡ elapsed self.old) × (sends role retry self.old ≡ false) }
+    {
+        match self.mode {
+            Mode::Shutdown | Mode::Standby | Mode::Rx => {}
+            Mode::IdleTx if !waiting || self.flags.max_rt => {}
+            Mode::Starting { left } if left > 1 => self.mode = Mode::Starting { left: left - 1 },
+            Mode::Tuning { left } if left > 1 => self.mode = Mode::Tuning { left: left - 1 },
+            Mode::Waiting { left } if left > 1 => self.mode = Mode::Waiting { left: left - 1 },
+            _ => return false,
+        }
+        true
+    }
+
     // One tick; `waiting` says whether a payload stands in the TX queue. The answer says whether the oldest payload is sent.
-    // The countdown is written out for each mode: of an or-pattern over the three that binds `left` by `&mut` it is not proved that what
-    // is written through `left` is the mode that stands then.
     pub fn tick(&mut self, role: Role, retry: Retry, waiting: bool) -> bool
         ensures after { self.new ≡ ticked role retry waiting self.old }
         ensures answer { result ≡ sends role retry self.old }
     {
+        if self.tick_if_uneventful(waiting) {
+            return false;
+        }
         match (self.mode, role) {
-            (Mode::Starting { left }, _) if left > 1 => self.mode = Mode::Starting {
-                left: left - 1,
-            },
             (Mode::Starting { .. }, _) => self.rest(role),
-            (Mode::IdleTx, _) if waiting && !self.flags.max_rt => self.begin(),
-            (Mode::Tuning { left }, _) if left > 1 => self.mode = Mode::Tuning { left: left - 1 },
+            (Mode::IdleTx, _) => self.begin(),
             (Mode::Tuning { .. }, Role::Receiver) => self.mode = Mode::Rx,
             (Mode::Tuning { .. }, Role::Sender) => {
                 self.mode = retry.waiting();
                 return true;
             }
-            (Mode::Waiting { left }, _) if left > 1 => self.mode = Mode::Waiting { left: left - 1 },
             (Mode::Waiting { .. }, _) if self.counts.again < retry.count => {
                 self.counts.again += 1;
                 self.mode = retry.waiting();
                 return true;
             }
             (Mode::Waiting { .. }, _) => self.give_up(role),
-            _ => {}
+            // uneventful
+            (Mode::Shutdown | Mode::Standby | Mode::Rx, _) => {}
         }
         false
     }

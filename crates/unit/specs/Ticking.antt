@@ -7,7 +7,7 @@ use Rattle.queue.specs.Entries.{entries, first}
 use Rattle.commands.specs.declared.refusal.Refusal.{Refusal}
 use Rattle.commands.specs.declared.refusal.Refusal.TheVariants.{FrameBytes}
 use Rattle.commands.specs.Refusals.{first_of, unless, kept_or}
-use Rattle.modes.specs.Modes.{ticked, sends, leveled}
+use Rattle.modes.specs.Modes.{ticked, sends, uneventful, leveled}
 use Rattle.unit.specs.declared.entry.Outgoing.{Outgoing}
 use Rattle.unit.specs.declared.state.State.{State}
 use Rattle.unit.specs.Entries.{data_bytes}
@@ -50,6 +50,11 @@ tick_after s room = kept_or (tick_refusal s room) s (tick_state s)
 
 abbrev pub tick_buffer : ℕ → (List Bool → ℕ) → State → List ℕ → List ℕ
 tick_buffer w f s buffer = kept_or (tick_refusal s (length buffer)) buffer (buffer_after (bits_of w f (sent s)) buffer)
+
+-- ---- a tick that only counts down, of a unit without a fault: it is not refused, and sends nothing
+
+abbrev pub is_uneventful : State → Bool
+is_uneventful s = elim s.fault [ None ↦ uneventful (payload_waits s) s.core | Some r ↦ false ]
 
 -- ---- CE
 

@@ -1,5 +1,5 @@
 // Hearing a frame.
-ghost use Rattle.std.specs.Prelude.{◌≡◌, ◌*◌, ◌≤◌, not, length, take, if◌then◌else◌, Some, ◌==◌, nat_eq};
+ghost use Rattle.std.specs.Prelude.{◌≡◌, ℕ, ◌*◌, ◌≤◌, Bool, false, not, List, length, take, if◌then◌else◌, Some, ◌==◌, nat_eq};
 ghost use Rattle.checks.specs.Bits.{bits};
 ghost use Rattle.queue.specs.Entries.{entries};
 ghost use Rattle.std.specs.Option.{option_map};
@@ -7,7 +7,7 @@ ghost use Rattle.std.specs.Str.{bytes_eq};
 ghost use Rattle.frames.specs.Calls.{address_bytes, packet_of, pid_number};
 ghost use Rattle.registers.specs.Readings.{pipe_address};
 ghost use Rattle.bench.specs.Checking.{in_use};
-ghost use Rattle.unit.specs.Hearing.{on_pipe, pipe_of, on_its_pipe, taken, acknowledgement, heard_by_receiver, heard_by_sender, hears, listens, heard_bits, hear_answer, hear_after, hear_buffer};
+ghost use Rattle.unit.specs.Hearing.{on_pipe, pipe_of, on_its_pipe, taken, acknowledgement, heard_by_receiver, heard_by_sender, hears, dropped, listens, heard_bits, hear_answer, hear_after, hear_buffer};
 
 use crate::entry::{Data, Received};
 use crate::memory::Memory;
@@ -114,9 +114,12 @@ impl State {
         }
     }
 
-    // Whether the unit listens at all.
-    fn listens(&self) -> bool
-        ensures { result ≡ listens self.now }
+    // Whether the unit listens at all: one that does not drops each frame unread.
+    #[tactic(auto, using(crate::proofs::Deaf::deaf))]
+    #[inline]
+    pub fn listens(&self) -> bool
+        ensures value { result ≡ listens self.now }
+        ensures law { (w : ℕ) (f : List Bool → ℕ) (xs : List Bool) → listens self.now ≡ false → heard_bits w f self.now xs ≡ dropped self.now }
     {
         match self.role() {
             Role::Receiver => self.core.mode.is_rx(),

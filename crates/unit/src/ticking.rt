@@ -1,9 +1,10 @@
 // Ticks and the CE pin.
-ghost use Rattle.std.specs.Prelude.{◌≡◌, ◌≤◌, length};
+ghost use Rattle.std.specs.Prelude.{◌≡◌, ◌≤◌, true, cond, None, length};
 ghost use Rattle.std.specs.Option.{option_map};
 ghost use Rattle.frames.specs.Calls.{packet_of};
 ghost use Rattle.frames.specs.Packet.{buffer_after};
-ghost use Rattle.unit.specs.Ticking.{oldest_packet, sent, bits_of, tick_state, tick_answer, tick_after, tick_buffer, ce_answer, ce_after};
+ghost use Rattle.unit.specs.Units.{fault_refusal};
+ghost use Rattle.unit.specs.Ticking.{oldest_packet, sent, bits_of, is_uneventful, tick_state, tick_answer, tick_after, tick_buffer, ce_answer, ce_after};
 
 use crate::refusing::ensure_frame_fits;
 use crate::state::{Boxed, State};
@@ -56,8 +57,20 @@ pub(crate) fn put_frame<C: Check>(fields: Option<Fields>, buffer: &mut [u8]) -> 
 }
 
 impl State {
+    // One tick, if it is uneventful: it needs no buffer then, since it sends nothing. The answer says whether it is; any other is not
+    // done. Most ticks are uneventful, so all others are told from them first.
+    #[inline]
+    pub fn tick_if_uneventful(&mut self) -> bool
+        ensures answer { result ≡ is_uneventful self.old }
+        ensures state { self.new ≡ cond (is_uneventful self.old) (tick_state self.old) self.old }
+        ensures law { is_uneventful self.old ≡ true → (fault_refusal self.old ≡ None) × (sent self.old ≡ None) }
+    {
+        self.fault.is_none() && self.core.tick_if_uneventful(!self.tx.is_empty())
+    }
+
     // One tick of 10 µs, for frames with that kind of check. The answer is the bit count of the frame that is sent, 0 for none,
     // as the radio's calls have it (docs/MODES.md); it stands in the buffer.
+    #[tactic(auto, unfolding(frames::specs::Octets::octets))]
     pub fn tick<C: Check>(&mut self, buffer: &mut [u8]) -> Result<usize, Refusal>
         ensures answer { result ≡ tick_answer C.Check.W C.meaning self.old (length buffer.old) }
         ensures state { self.new ≡ tick_after self.old (length buffer.old) }
@@ -65,6 +78,9 @@ impl State {
     {
         self.ensure_sound()?;
         ensure_frame_fits(buffer)?;
+        if self.tick_if_uneventful() {
+            return Ok(0);
+        }
         Ok(put_frame::<C>(self.advance(), buffer))
     }
 

@@ -1,6 +1,7 @@
 use Rattle.std.proofs.Common.{◌≡◌, ℕ, ◌+◌, ◌-◌, ◌*◌, ◌/◌, ◌%◌, ◌^◌, ◌<◌, ◌≤◌, ◌⊎◌, bit_and, bit_xor, sym, ◌∙◌, ap, ap₂, inl, inr, subst, lit<, rules, arith}
 use Rattle.std.proofs.lemmas.Nat.{shl_whole, shl_below, shr_below, xor_lt, and_mask}
 use Rattle.std.proofs.Math.Nat.{pow-le-pow_right}
+use Rattle.std.proofs.lemmas.Grind.{div_ceil_times}
 use Rattle.std.proofs.lemmas.Nat.Bits.{ones_shr}
 use Rattle.checks.specs.Bits.{word}
 use Rattle.checks.specs.Crc.{run}
@@ -52,10 +53,11 @@ returns g c =
     ap (λ (n : ℕ). n * 2 ^ count % 340282366920938463463374607431768211456) c.from.ensures ∙ whole in
     let met : ℕ = bit_xor (r * 2 ^ count / 2 ^ p.WIDTH) c.args.number in
     let few : met < 2 ^ count = xor_lt count _ _ (moved_below p.WIDTH r count c.requires.below) c.requires.fits in
-    let e : 64 ≡ 64 - count + count = omega (arith, c.requires.within) in
+    let bytes : ℕ = c.div_ceil.result in
+    let e : 8 * bytes ≡ 8 * bytes - count + count = omega (arith, (div_ceil_times count 8 (lit< tt)).0, c.div_ceil.ensures) in
     ap₂ (λ (a b : ℕ). bit_xor a b)
     (c.from_none.ensures
-    ∙ ap (λ (n : ℕ). run p.WIDTH p.POLYNOMIAL 0 (word 64 (bit_xor n c.args.number))) (ap₂ (λ (n m : ℕ). n / 2 ^ m) moved c.WIDTH.ensures)
-    ∙ ap (λ (n : ℕ). run p.WIDTH p.POLYNOMIAL 0 (word n met)) e ∙ leading p.WIDTH p.POLYNOMIAL count (64 - count) met few)
+    ∙ ap (λ (n : ℕ). run p.WIDTH p.POLYNOMIAL 0 (word (8 * bytes) (bit_xor n c.args.number))) (ap₂ (λ (n m : ℕ). n / 2 ^ m) moved c.WIDTH.ensures)
+    ∙ ap (λ (n : ℕ). run p.WIDTH p.POLYNOMIAL 0 (word n met)) e ∙ leading p.WIDTH p.POLYNOMIAL count (8 * bytes - count) met few)
     (ap₂ (λ (n m : ℕ). bit_and n (340282366920938463463374607431768211455 / 2 ^ (128 - m))) moved c.WIDTH-2.ensures ∙ low_mask (r * 2 ^ count) p.WIDTH within.1)
     ∙ block p.WIDTH p.POLYNOMIAL r count c.args.number (positive law.wide) c.requires.below
