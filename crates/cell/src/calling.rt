@@ -1,9 +1,9 @@
 // The calls of a cell at one of its units.
-ghost use Rattle.std.specs.Prelude.{◌≡◌, cond, length, Ok, nat_lt};
-ghost use Rattle.commands.specs.Refusals.{unless};
-ghost use Rattle.unit.specs.Ticking.{tick_refusal, tick_after};
+ghost use Rattle.std.specs.Prelude.{◌≡◌, cond, length, None, Ok, nat_lt};
+ghost use Rattle.unit.specs.Ticking.{tick_answer, tick_after};
 ghost use Rattle.cell.specs.Air.{air_of};
-ghost use Rattle.cell.specs.Calls.{command_result, commanded, command_reply, ce_result, leveled, no_such, tick_bits, tick_result, ticked};
+ghost use Rattle.cell.specs.Calls.{command_result, commanded, command_reply, ce_result, leveled, no_such, done_if, tick_bits, tick_result, ticked};
+ghost use Rattle.cell.specs.Refusals.{of_the_unit};
 ghost use Rattle.cell.specs.Pins.{irq_at};
 
 use crate::air::Frame;
@@ -12,7 +12,6 @@ use crate::answering::of_the_unit;
 use crate::parts::Cell;
 use crate::refusal::{Cause, Refusal};
 use checks::Check;
-use commands::Refusal as UnitRefusal;
 use unit::State;
 
 // How many places a cell has; clauses say the number.
@@ -30,18 +29,19 @@ fn place_of(unit: u8) -> Result<usize, Refusal>
     }
 }
 
-// One tick of a unit. The answer is what it puts on the air.
-fn tick<C: Check>(state: &mut State, unit: u8) -> Result<Option<Frame>, UnitRefusal>
-    ensures answer { result ≡ unless (tick_refusal state.old 42) (air_of unit (tick_bits C.Check.W C.meaning state.old)) }
+// One tick of a unit; what it sends is put on the air, which is empty. Never inlined, so that the ticks that send nothing pay nothing for
+// the bytes of a frame.
+#[inline(never)]
+fn tick<C: Check>(state: &mut State, unit: u8, air: &mut Option<Frame>) -> Result<(), Refusal>
+    requires { air.old ≡ None }
+    ensures answer { result ≡ done_if (of_the_unit unit (tick_answer C.Check.W C.meaning state.old 42)) }
     ensures state { state.new ≡ tick_after state.old 42 }
+    ensures air { air.new ≡ air_of unit (tick_bits C.Check.W C.meaning state.old) }
 {
-    // no bytes are made for a tick that sends nothing
-    if state.tick_if_uneventful() {
-        return Ok(None);
-    }
     let mut bytes = [0; LONGEST_FRAME];
-    let count = state.tick::<C>(&mut bytes)?;
-    Ok(Frame::aired(unit, count, bytes))
+    let count = of_the_unit(unit, state.tick::<C>(&mut bytes))?;
+    *air = Frame::aired(unit, count, bytes);
+    Ok(())
 }
 
 impl<C: Check> Cell<C> {
@@ -79,15 +79,12 @@ impl<C: Check> Cell<C> {
         match &mut self.inside.places.at[place] {
             None => Err(Cause::NoSuchUnit.at(unit)),
             Some(_) if self.inside.air.is_some() => Err(Cause::AirHoldsFrame.at(unit)),
-            // the air is empty, and most ticks send nothing: it is written only where there is a frame
-            Some(state) => match tick::<C>(state, unit) {
-                Ok(None) => Ok(()),
-                Ok(Some(frame)) => {
-                    self.inside.air = Some(frame);
-                    Ok(())
+            Some(state) => {
+                if state.tick_if_uneventful() {
+                    return Ok(());
                 }
-                Err(refusal) => Err(Cause::Unit(refusal).at(unit)),
-            },
+                tick::<C>(state, unit, &mut self.inside.air)
+            }
         }
     }
 

@@ -66,8 +66,12 @@ impl<T: Drop> Queue<T> {
         ensures after { self.new ≡ pushed self.old value }
         ensures law { JoinsLast self.old value result self.new }
     {
+        // a queue is most often empty, and then nothing has to be moved
+        if self.is_empty() {
+            *self = Queue::One { oldest: value };
+            return Ok(());
+        }
         *self = match std::mem::replace(self, Queue::Empty) {
-            Queue::Empty => Queue::One { oldest: value },
             Queue::One { oldest } => Queue::Two {
                 oldest,
                 middle: value,

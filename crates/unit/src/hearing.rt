@@ -1,12 +1,13 @@
 // Hearing a frame.
-ghost use Rattle.std.specs.Prelude.{◌≡◌, ℕ, ◌*◌, ◌≤◌, Bool, false, not, List, length, take, if◌then◌else◌, Some, ◌==◌, nat_eq};
+ghost use Rattle.std.specs.Prelude.{◌≡◌, ℕ, ◌*◌, ◌≤◌, Bool, false, cond, not, List, length, take, if◌then◌else◌, Some, None, ◌==◌, nat_eq};
 ghost use Rattle.checks.specs.Bits.{bits};
 ghost use Rattle.queue.specs.Entries.{entries};
-ghost use Rattle.std.specs.Option.{option_map};
 ghost use Rattle.std.specs.Str.{bytes_eq};
+ghost use Rattle.frames.specs.Packet.{buffer_after};
 ghost use Rattle.frames.specs.Calls.{address_bytes, packet_of, pid_number};
 ghost use Rattle.registers.specs.Readings.{pipe_address};
 ghost use Rattle.bench.specs.Checking.{in_use};
+ghost use Rattle.unit.specs.Ticking.{bits_of};
 ghost use Rattle.unit.specs.Hearing.{on_pipe, pipe_of, on_its_pipe, taken, acknowledgement, heard_by_receiver, heard_by_sender, hears, dropped, listens, heard_bits, hear_answer, hear_after, hear_buffer};
 
 use crate::entry::{Data, Received};
@@ -20,17 +21,21 @@ use frames::{Address, Fields, Heard, Payload};
 use modes::Role;
 use registers::Pipe;
 
-// The answer to a frame, if it wants one: its NO_ACK is 0, as the frame's is then.
-fn acknowledge(fields: &Fields) -> Option<Fields>
-    ensures { option_map packet_of result ≡ acknowledgement (packet_of fields.now) }
+// The frame of the answer to a frame, if it wants one: its NO_ACK is 0, as the answer's is then.
+#[tactic(auto, unfolding(frames::specs::Octets::octets))]
+fn put_acknowledgement<C: Check>(fields: &Fields, buffer: &mut [u8]) -> usize
+    requires { 42 ≤ length buffer.old }
+    ensures answer { result ≡ length (bits_of C.Check.W C.meaning (acknowledgement (packet_of fields.now))) }
+    ensures buffer { buffer.new ≡ buffer_after (bits_of C.Check.W C.meaning (acknowledgement (packet_of fields.now))) buffer.old }
 {
     if fields.no_ack {
-        return None;
+        return 0;
     }
-    Some(Fields {
+    let answer = Fields {
         payload: Payload::empty(),
         ..*fields
-    })
+    };
+    put_frame::<C>(&answer, buffer)
 }
 
 impl State {
@@ -58,35 +63,41 @@ impl State {
             .copied()
     }
 
-    // A frame with the address of one of the receiver's pipes.
-    fn hear_on(&mut self, pipe: Pipe, heard: &Heard) -> Option<Fields>
+    // A frame with the address of one of the receiver's pipes. The answer is whether it is acknowledged, where it wants to be.
+    fn hear_on(&mut self, pipe: Pipe, heard: &Heard) -> bool
         ensures after { self.new ≡ (on_its_pipe self.old (packet_of heard.now.fields) (record { pid = pid_number heard.now.fields.pid; check = heard.now.check }) (Some pipe)).state }
-        ensures answer { option_map packet_of result ≡ (on_its_pipe self.old (packet_of heard.now.fields) (record { pid = pid_number heard.now.fields.pid; check = heard.now.check }) (Some pipe)).answer }
+        ensures answer { (on_its_pipe self.old (packet_of heard.now.fields) (record { pid = pid_number heard.now.fields.pid; check = heard.now.check }) (Some pipe)).answer ≡ cond result (acknowledgement (packet_of heard.now.fields)) None }
     {
         let payload = heard.fields.payload.bytes();
         if payload.len() != usize::from(self.registers.payload_width(pipe)) {
-            return None;
+            return false;
         }
         let memory = Memory {
             pid: heard.fields.pid.number(),
             check: heard.check,
         };
         if self.memories.knows(pipe, memory) {
-            return acknowledge(&heard.fields);
+            return true;
         }
-        let data = Data::new(payload)?;
-        self.rx.push(Received { pipe, data }).ok()?;
+        let Some(data) = Data::new(payload) else {
+            return false;
+        };
+        if self.rx.push(Received { pipe, data }).is_err() {
+            return false;
+        }
         self.core.flags.rx_dr = true;
         self.memories.remember(pipe, memory);
-        acknowledge(&heard.fields)
+        true
     }
 
-    fn hear_as_receiver(&mut self, heard: &Heard) -> Option<Fields>
+    fn hear_as_receiver(&mut self, heard: &Heard) -> bool
         ensures after { self.new ≡ (heard_by_receiver self.old (packet_of heard.now.fields) heard.now.check).state }
-        ensures answer { option_map packet_of result ≡ (heard_by_receiver self.old (packet_of heard.now.fields) heard.now.check).answer }
+        ensures answer { (heard_by_receiver self.old (packet_of heard.now.fields) heard.now.check).answer ≡ cond result (acknowledgement (packet_of heard.now.fields)) None }
     {
-        let pipe = self.pipe_of(&heard.fields.address)?;
-        self.hear_on(pipe, heard)
+        match self.pipe_of(&heard.fields.address) {
+            Some(pipe) => self.hear_on(pipe, heard),
+            None => false,
+        }
     }
 
     fn hear_as_sender(&mut self, fields: &Fields)
@@ -99,18 +110,19 @@ impl State {
         }
     }
 
-    // A frame that was read. The answer is what is sent back.
-    fn take_in(&mut self, heard: &Heard) -> Option<Fields>
+    // A frame that was read. The answer is whether it is acknowledged, where it wants to be: a bit and no frame, which would be copied
+    // from call to call.
+    fn take_in(&mut self, heard: &Heard) -> bool
         ensures after { self.new ≡ (hears self.old (packet_of heard.now.fields) heard.now.check).state }
-        ensures answer { option_map packet_of result ≡ (hears self.old (packet_of heard.now.fields) heard.now.check).answer }
+        ensures answer { (hears self.old (packet_of heard.now.fields) heard.now.check).answer ≡ cond result (acknowledgement (packet_of heard.now.fields)) None }
     {
         match self.role() {
             Role::Receiver if self.core.mode.is_rx() => self.hear_as_receiver(heard),
             Role::Sender if self.core.mode.is_waiting() => {
                 self.hear_as_sender(&heard.fields);
-                None
+                false
             }
-            _ => None,
+            _ => false,
         }
     }
 
@@ -127,19 +139,27 @@ impl State {
         }
     }
 
-    // The bits of a frame, which its bytes hold. They are read only where the unit listens: most that reach a unit are for others.
-    #[tactic(auto, using(crate::proofs::Deaf::deaf))]
-    fn hear_bits<C: Check>(&mut self, frame: &[u8], count: usize) -> Option<Fields>
-        requires { count ≤ 8 * length frame.now }
+    // The bits of a frame, which its bytes hold; the buffer has room for the answer. They are read only where the unit listens: most
+    // that reach a unit are for others.
+    #[tactic(auto, using(crate::proofs::Deaf::deaf), unfolding(frames::specs::Octets::octets))]
+    fn hear_bits<C: Check>(&mut self, frame: &[u8], count: usize, buffer: &mut [u8]) -> usize
+        requires held { count ≤ 8 * length frame.now }
+        requires room { 42 ≤ length buffer.old }
         ensures after { self.new ≡ (heard_bits C.Check.W C.meaning self.old (take count (bits frame.now))).state }
-        ensures answer { option_map packet_of result ≡ (heard_bits C.Check.W C.meaning self.old (take count (bits frame.now))).answer }
+        ensures answer { result ≡ length (bits_of C.Check.W C.meaning (heard_bits C.Check.W C.meaning self.old (take count (bits frame.now))).answer) }
+        ensures buffer { buffer.new ≡ buffer_after (bits_of C.Check.W C.meaning (heard_bits C.Check.W C.meaning self.old (take count (bits frame.now))).answer) buffer.old }
     {
         if !self.listens() {
-            return None;
+            return 0;
         }
         // the bytes hold the bits, so reading is not refused
-        let heard = frames::read::<C>(frame, count, self.address_width()).unwrap()?;
-        self.take_in(&heard)
+        let Some(heard) = frames::read::<C>(frame, count, self.address_width()).unwrap() else {
+            return 0;
+        };
+        if !self.take_in(&heard) {
+            return 0;
+        }
+        put_acknowledgement::<C>(&heard.fields, buffer)
     }
 
     // A frame with that kind of check reaches the unit: the first `count` bits of its bytes. The answer is the bit count of the
@@ -158,7 +178,7 @@ impl State {
         self.ensure_sound()?;
         ensure_frame_fits(buffer)?;
         ensure_bits_there(frame, count)?;
-        Ok(put_frame::<C>(self.hear_bits::<C>(frame, count), buffer))
+        Ok(self.hear_bits::<C>(frame, count, buffer))
     }
 }
 

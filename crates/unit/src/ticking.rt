@@ -1,9 +1,9 @@
 // Ticks and the CE pin.
-ghost use Rattle.std.specs.Prelude.{◌≡◌, ◌≤◌, true, cond, None, length};
-ghost use Rattle.std.specs.Option.{option_map};
+ghost use Rattle.std.specs.Prelude.{◌≡◌, ◌≤◌, true, cond, Some, None, length};
 ghost use Rattle.frames.specs.Calls.{packet_of};
 ghost use Rattle.frames.specs.Packet.{buffer_after};
-ghost use Rattle.unit.specs.Units.{fault_refusal};
+ghost use Rattle.modes.specs.Modes.{sends};
+ghost use Rattle.unit.specs.Units.{role_of, retry_of, fault_refusal};
 ghost use Rattle.unit.specs.Ticking.{oldest_packet, sent, bits_of, is_uneventful, tick_state, tick_answer, tick_after, tick_buffer, ce_answer, ce_after};
 
 use crate::refusing::ensure_frame_fits;
@@ -12,48 +12,46 @@ use checks::Check;
 use commands::Refusal;
 use frames::Fields;
 
+// Writes a frame into the buffer, which has room for it, and answers its bit count.
+pub(crate) fn put_frame<C: Check>(fields: &Fields, buffer: &mut [u8]) -> usize
+    requires { 42 ≤ length buffer.old }
+    ensures answer { result ≡ length (bits_of C.Check.W C.meaning (Some (packet_of fields.now))) }
+    ensures buffer { buffer.new ≡ buffer_after (bits_of C.Check.W C.meaning (Some (packet_of fields.now))) buffer.old }
+{
+    // a buffer with room is not refused
+    frames::pack::<C>(fields, buffer).unwrap()
+}
+
 impl State {
-    // The fields of the frame that the oldest payload is sent with.
-    fn oldest_fields(&self) -> Option<Fields>
-        ensures { option_map packet_of result ≡ oldest_packet self.now }
+    // The frame that the oldest payload is sent with.
+    #[tactic(auto, unfolding(frames::specs::Octets::octets))]
+    fn put_oldest<C: Check>(&self, buffer: &mut [u8]) -> usize
+        requires { 42 ≤ length buffer.old }
+        ensures answer { result ≡ length (bits_of C.Check.W C.meaning (oldest_packet self.now)) }
+        ensures buffer { buffer.new ≡ buffer_after (bits_of C.Check.W C.meaning (oldest_packet self.now)) buffer.old }
     {
-        self.tx.oldest().map(|outgoing| Fields {
+        let Some(outgoing) = self.tx.oldest() else {
+            return 0;
+        };
+        let fields = Fields {
             address: self.tx_address(),
             pid: outgoing.pid,
             no_ack: false,
             payload: outgoing.data.payload,
-        })
+        };
+        put_frame::<C>(&fields, buffer)
     }
 
-    // The unit goes on by one tick. The answer is what is sent.
-    fn advance(&mut self) -> Option<Fields>
+    // The unit goes on by one tick. The answer is whether the oldest payload is sent.
+    fn advance(&mut self) -> bool
         ensures after { self.new ≡ tick_state self.old }
-        ensures answer { option_map packet_of result ≡ sent self.old }
+        ensures answer { result ≡ sends (role_of self.old.registers) (retry_of self.old.registers) self.old.core }
     {
         let role = self.role();
         let retry = self.retry();
         let waiting = !self.tx.is_empty();
-        if self.core.tick(role, retry, waiting) {
-            self.oldest_fields()
-        } else {
-            None
-        }
+        self.core.tick(role, retry, waiting)
     }
-}
-
-// Writes a frame into the buffer, if there is one to write, and answers its bit count.
-#[tactic(auto, unfolding(frames::specs::Octets::octets))]
-pub(crate) fn put_frame<C: Check>(fields: Option<Fields>, buffer: &mut [u8]) -> usize
-    requires { 42 ≤ length buffer.old }
-    ensures answer { result ≡ length (bits_of C.Check.W C.meaning (option_map packet_of fields)) }
-    ensures buffer { buffer.new ≡ buffer_after (bits_of C.Check.W C.meaning (option_map packet_of fields)) buffer.old }
-{
-    // no `map_or`: of the buffer that its closure would write to, nothing is known after it
-    let Some(fields) = fields else {
-        return 0;
-    };
-    // a buffer with room is not refused
-    frames::pack::<C>(&fields, buffer).unwrap()
 }
 
 impl State {
@@ -78,10 +76,10 @@ impl State {
     {
         self.ensure_sound()?;
         ensure_frame_fits(buffer)?;
-        if self.tick_if_uneventful() {
+        if self.tick_if_uneventful() || !self.advance() {
             return Ok(0);
         }
-        Ok(put_frame::<C>(self.advance(), buffer))
+        Ok(self.put_oldest::<C>(buffer))
     }
 
     // Sets the level of the CE pin.
