@@ -86,10 +86,10 @@ abbrev pub heard_packet : Option Heard → Option Packet
 heard_packet None = None
 heard_packet (Some h) = Some (packet_of h.fields)
 
--- the check that was heard is that of the packet
+-- the check that was heard is that of the packet, and the payload is 0 behind its bytes
 abbrev pub Checked : (List Bool → ℕ) → Option Heard → Type 0
 Checked f None = Unit {0}
-Checked f (Some h) = h.check ≡ f (covered (packet_of h.fields))
+Checked f (Some h) = (h.check ≡ f (covered (packet_of h.fields))) × (h.fields.payload ≡ payload_of (payload_bytes h.fields.payload))
 
 abbrev pub Reads : ℕ → (List Bool → ℕ) → ℕ → List ℕ → ℕ → Result (Option Heard) Refusal → Type 0
 Reads w f width frame n (Ok r) = (n ≤ 8 * length frame) × (heard_packet r ≡ reading w f width (take n (bits frame))) × Checked f r

@@ -1,7 +1,7 @@
 ghost use Rattle.std.specs.Prelude.{◌≡◌, ℕ, ◌+◌, ◌*◌, ◌≤◌, length, take, IfSome, if◌then◌else◌, Some, None, option_map, nat_le};
 ghost use Rattle.checks.specs.Bits.{bits};
 ghost use Rattle.frames.specs.Packet.{length_field, count_fits, fields_at, reading};
-ghost use Rattle.frames.specs.Calls.{width_of, packet_of, heard_packet, Checked, Reads, Exact};
+ghost use Rattle.frames.specs.Calls.{width_of, packet_of, payload_bytes, payload_of, heard_packet, Checked, Reads, Exact};
 
 use crate::bits::{get_bits, get_octets};
 use crate::fields::{Address, AddressWidth, Fields, Heard, MOST, Payload, Pid, Refusal};
@@ -38,7 +38,8 @@ fn layout_of(frame: &[u8], count: usize, wide: AddressWidth, size: usize) -> Opt
 // What stands in the places of the fields.
 fn fields_at(frame: &[u8], layout: Layout) -> Fields
     requires { 8 + 8 * width_of layout.wide + 9 + 8 * layout.len ≤ 8 * length frame.now }
-    ensures { packet_of result ≡ fields_at (width_of layout.wide) layout.len (bits frame.now) }
+    ensures value { packet_of result ≡ fields_at (width_of layout.wide) layout.len (bits frame.now) }
+    ensures zeros { result.payload ≡ payload_of (payload_bytes result.payload) }
 {
     let control = layout.wide.control();
     let mut address = [0; 5];

@@ -1,10 +1,11 @@
-use Rattle.std.proofs.Common.{◌≡◌, ℕ, ◌+◌, ◌-◌, ◌*◌, false, List, reverse, length, get_or, take, drop, replicate, ap, ◌∙◌, subst, ap₂, arith}
+use Rattle.std.proofs.Common.{◌≡◌, ℕ, ◌+◌, ◌-◌, ◌*◌, false, List, reverse, length, get_or, take, drop, replicate, refl, ap, ◌∙◌, subst, ap₂, arith}
 use Rattle.std.proofs.lemmas.List.{take_at, length-take-le}
 use Rattle.checks.specs.Bits.{bits}
 use Rattle.frames.specs.Octets.{number, octets}
 use Rattle.frames.specs.Calls.{width_of, pid_number, PidOrNone}
 use Rattle.frames.proofs.Octets.{length_octets}
 use Rattle.frames.proofs.Parse.{same}
+use Rattle.frames.proofs.Zeros.{zeros_behind}
 use Rattle.frames.proofs.reading.fields_at.Goals as goal
 
 pub returns : goal.returns
@@ -22,8 +23,13 @@ returns c =
     c.get_octets-2.ensures ∙ ap₂ (λ (n at : ℕ). octets n (drop at b)) ll c.payload.ensures.value in
     let pid : pid_number c.unwrap-pid.result ≡ c.get_bits.result =
     subst (PidOrNone c.get_bits.result) c.unwrap-pid.ensures c.try_from.ensures in
-    same
-    (take_at c.reverse.new.self _ width (omega (arith, lw)) ∙ ea)
-    (pid ∙ c.get_bits.ensures.value ∙ ap (λ (at : ℕ). number (take 2 (drop (at + 6) b))) control)
-    (c.bit_at.ensures ∙ ap (λ (at : ℕ). get_or b (at + 8) false) control)
-    (take_at c.get_octets-2.new.out _ len (omega (arith, ap length ep, length_octets len (drop (8 + 8 * width + 9) b))) ∙ ep)
+    let lp : length c.get_octets-2.new.out ≡ len = ap length ep ∙ length_octets len (drop (8 + 8 * width + 9) b) in
+    record {
+      value =
+          same
+          (take_at c.reverse.new.self _ width (omega (arith, lw)) ∙ ea)
+          (pid ∙ c.get_bits.ensures.value ∙ ap (λ (at : ℕ). number (take 2 (drop (at + 6) b))) control)
+          (c.bit_at.ensures ∙ ap (λ (at : ℕ). get_or b (at + 8) false) control)
+          (take_at c.get_octets-2.new.out _ len lp ∙ ep);
+      zeros = zeros_behind c.get_octets-2.new.out len (len - 0) _ lp (omega arith) _ refl;
+    }

@@ -58,10 +58,12 @@ returns g c =
     let r = right f w size width len _ own said b c.W-size.ensures at c.check_before.ensures c.get_bits-check.ensures.value in
     let t = eq-eqb own said c.if-check_before-check.false in
     let s = packet_of c.fields_at.result in
-    let is = c.fields_at.ensures ∙ ap (λ (v : ℕ). fields_at v len b) (ap width_of places.0) in
+    let is = c.fields_at.ensures.value ∙ ap (λ (v : ℕ). fields_at v len b) (ap width_of places.0) in
     record {
       value = heard_some b n le f w below width size c.W-size.ensures len (eqb own said) c.in_ok-layout.ensures.value places.1 r t s is;
-      check =
-          heard_check b n le f w below width size c.W-size.ensures len (eqb own said) c.in_ok-layout.ensures.value places.1 r t s is said
-          (c.get_bits-check.ensures.value ∙ ap (λ (e : ℕ). number (take size (drop e b))) at);
+      check = (
+        heard_check b n le f w below width size c.W-size.ensures len (eqb own said) c.in_ok-layout.ensures.value places.1 r t s is said
+            (c.get_bits-check.ensures.value ∙ ap (λ (e : ℕ). number (take size (drop e b))) at),
+        c.fields_at.ensures.zeros,
+      );
     }
