@@ -1,5 +1,6 @@
 // Making entries.
 ghost use Rattle.std.specs.Prelude.{◌≡◌, ◌<◌, ◌≤◌, length, MatchOption};
+ghost use Rattle.frames.specs.Calls.{payload_bytes, payload_of};
 ghost use Rattle.unit.specs.Entries.{data_bytes, entry_of};
 
 use crate::entry::Data;
@@ -11,11 +12,17 @@ impl Data {
         ensures whole { result ≡ entry_of given.now }
         ensures bytes { MatchOption result ((1 ≤ length given.now → length given.now ≤ 32 → ⊥)) (λ d. data_bytes d ≡ given.now) }
     {
-        if given.is_empty() {
+        Data::of(Payload::new(given)?)
+    }
+
+    // An entry of the payload as it is, which has zeros behind its bytes; there is none of an empty one.
+    pub(crate) fn of(payload: Payload) -> Option<Data>
+        requires { payload ≡ payload_of (payload_bytes payload) }
+        ensures { result ≡ entry_of (payload_bytes payload) }
+    {
+        if payload.bytes().is_empty() {
             return None;
         }
-        // no `map`: the proof that the entry is the one defined does not close over its closure
-        let payload = Payload::new(given)?;
         Some(Data { payload })
     }
 }

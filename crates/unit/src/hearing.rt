@@ -4,7 +4,7 @@ ghost use Rattle.checks.specs.Bits.{bits};
 ghost use Rattle.queue.specs.Entries.{entries};
 ghost use Rattle.std.specs.Str.{bytes_eq};
 ghost use Rattle.frames.specs.Packet.{buffer_after};
-ghost use Rattle.frames.specs.Calls.{address_bytes, packet_of, pid_number};
+ghost use Rattle.frames.specs.Calls.{address_bytes, packet_of, pid_number, payload_bytes, payload_of};
 ghost use Rattle.registers.specs.Readings.{pipe_address};
 ghost use Rattle.bench.specs.Checking.{in_use};
 ghost use Rattle.unit.specs.Ticking.{bits_of};
@@ -65,11 +65,12 @@ impl State {
 
     // A frame with the address of one of the receiver's pipes. The answer is whether it is acknowledged, where it wants to be.
     fn hear_on(&mut self, pipe: Pipe, heard: &Heard) -> bool
+        requires { heard.now.fields.payload ≡ payload_of (payload_bytes heard.now.fields.payload) }
         ensures after { self.new ≡ (on_its_pipe self.old (packet_of heard.now.fields) (record { pid = pid_number heard.now.fields.pid; check = heard.now.check }) (Some pipe)).state }
         ensures answer { (on_its_pipe self.old (packet_of heard.now.fields) (record { pid = pid_number heard.now.fields.pid; check = heard.now.check }) (Some pipe)).answer ≡ cond result (acknowledgement (packet_of heard.now.fields)) None }
     {
-        let payload = heard.fields.payload.bytes();
-        if payload.len() != usize::from(self.registers.payload_width(pipe)) {
+        let length = heard.fields.payload.bytes().len();
+        if length != usize::from(self.registers.payload_width(pipe)) {
             return false;
         }
         let memory = Memory {
@@ -79,7 +80,7 @@ impl State {
         if self.memories.knows(pipe, memory) {
             return true;
         }
-        let Some(data) = Data::new(payload) else {
+        let Some(data) = Data::of(heard.fields.payload) else {
             return false;
         };
         if self.rx.push(Received { pipe, data }).is_err() {
@@ -91,6 +92,7 @@ impl State {
     }
 
     fn hear_as_receiver(&mut self, heard: &Heard) -> bool
+        requires { heard.now.fields.payload ≡ payload_of (payload_bytes heard.now.fields.payload) }
         ensures after { self.new ≡ (heard_by_receiver self.old (packet_of heard.now.fields) heard.now.check).state }
         ensures answer { (heard_by_receiver self.old (packet_of heard.now.fields) heard.now.check).answer ≡ cond result (acknowledgement (packet_of heard.now.fields)) None }
     {
@@ -113,6 +115,7 @@ impl State {
     // A frame that was read. The answer is whether it is acknowledged, where it wants to be: a bit and no frame, which would be copied
     // from call to call.
     fn take_in(&mut self, heard: &Heard) -> bool
+        requires { heard.now.fields.payload ≡ payload_of (payload_bytes heard.now.fields.payload) }
         ensures after { self.new ≡ (hears self.old (packet_of heard.now.fields) heard.now.check).state }
         ensures answer { (hears self.old (packet_of heard.now.fields) heard.now.check).answer ≡ cond result (acknowledgement (packet_of heard.now.fields)) None }
     {
