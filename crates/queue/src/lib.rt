@@ -95,24 +95,25 @@ impl<T: Drop> Queue<T> {
         ensures after { self.new ≡ popped self.old }
         ensures law { LeavesFirst self.old result self.new }
     {
-        let (oldest, rest) = match std::mem::replace(self, Queue::Empty) {
-            Queue::Empty => return None,
-            Queue::One { oldest } => (oldest, Queue::Empty),
-            Queue::Two { oldest, middle } => (oldest, Queue::One { oldest: middle }),
+        match std::mem::replace(self, Queue::Empty) {
+            Queue::Empty => None,
+            Queue::One { oldest } => Some(oldest),
+            Queue::Two { oldest, middle } => {
+                *self = Queue::One { oldest: middle };
+                Some(oldest)
+            }
             Queue::Three {
                 oldest,
                 middle,
                 newest,
-            } => (
-                oldest,
-                Queue::Two {
+            } => {
+                *self = Queue::Two {
                     oldest: middle,
                     middle: newest,
-                },
-            ),
-        };
-        *self = rest;
-        Some(oldest)
+                };
+                Some(oldest)
+            }
+        }
     }
 
     // Lets every entry go.
