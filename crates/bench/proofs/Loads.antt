@@ -105,8 +105,5 @@ module _ (p : List ℕ) (f : Registers) where
         ),
       )
 
-  pub unsound : sound p ≡ false → load_refusal p ≡ Some Profile
-  unsound s = ap (λ (b : Bool). cond (not b) (Some Profile) (first_of (field_refusals p registers))) s
-
   pub in_fields : sound p ≡ true → load_refusal p ≡ first_of (field_refusals p registers)
   in_fields s = ap (λ (b : Bool). cond (not b) (Some Profile) (first_of (field_refusals p registers))) s

@@ -45,9 +45,6 @@ module _ {C : Type 0} where
     pub left : replicate i None ++ without_boxed (drop i xs) ≡ without_boxed xs
     pub stands : now ≡ replicate i None ++ drop i xs
 
-  pub none_taken : (xs : List (Slot C)) → Taking xs 0 [] xs
-  none_taken xs = record { units = refl; left = refl; stands = refl }
-
   -- what stands at the next place
   next : (xs : List (Slot C)) (i : ℕ) (us : List (BoxedUnit C)) (now : List (Slot C)) (x : Slot C) → Taking xs i us now → i < length xs → get_or now i x ≡ x → drop i xs ≡ x ∷ drop (suc i) xs
   next xs i us now x so more is =
@@ -106,20 +103,7 @@ module _ {C : Type 0} where
   past_end (x ∷ xs) zero h = absurd (omega (arith, h))
   past_end (x ∷ xs) (suc i) h = past_end xs i (omega (arith, h))
 
-  pub all_taken : (xs : List (Slot C)) (i : ℕ) (us : List (BoxedUnit C)) (now : List (Slot C)) → Taking xs i us now → length xs ≤ i → (us ≡ boxed_first xs) × (now ≡ without_boxed xs)
-  all_taken xs i us now so end =
-      let none = past_end xs i end in (
-        sym (append-nil us) ∙ sym (ap (λ ys. us ++ boxed_first ys) none) ∙ so.units,
-        so.stands ∙ ap (λ ys. replicate i None ++ ys) none ∙ sym (ap (λ ys. replicate i None ++ without_boxed ys) none) ∙ so.left,
-      )
-
   -- ---- put back
-
-  pub put_one : (us : List (BoxedUnit C)) (u : BoxedUnit C) (xs : List (Slot C)) → length us < length xs → with_boxed (us ++ (u ∷ [])) xs ≡ with_boxed us (set xs (length us) (in_slot u))
-  put_one [] u [] h = absurd (omega (arith, h))
-  put_one [] u (x ∷ xs) h = refl
-  put_one (v ∷ us) u [] h = absurd (omega (arith, h))
-  put_one (v ∷ us) u (x ∷ xs) h = ap (λ ys. in_slot v ∷ ys) (put_one us u xs (omega (arith, h)))
 
   pub as_before : (xs : List (Slot C)) → with_boxed (boxed_first xs) (without_boxed xs) ≡ xs
   as_before [] = refl
@@ -140,9 +124,6 @@ module _ {C : Type 0} where
   cell_made w d c none fits is =
       ap (λ x. record { slots = without_boxed d.slots; cell = Some (with_inside x no_counts) }) is
       ∙ sym (ap (λ x. desk_made_by x w d) none ∙ ap (λ o. made_unless o d) fits)
-
-  pub made_said : (w : ℕ) (d : Desk C) → d.cell ≡ None → (o : Option ℕ) → unit_at_fault w (states (boxed_first d.slots)) ≡ o → desk_make_said w d ≡ Ok (make_said_by o)
-  made_said w d none o is = ap (λ x. desk_make_by x w d) none ∙ ap (λ x. Ok (make_said_by x)) is
 
   pub unmade : (w : ℕ) (d : Desk C) (u : ℕ) → d.cell ≡ None → unit_at_fault w (states (boxed_first d.slots)) ≡ Some u → desk_made w d ≡ d
   unmade w d u none fault = ap (λ x. desk_made_by x w d) none ∙ ap (λ o. made_unless o d) fault

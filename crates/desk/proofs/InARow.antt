@@ -20,16 +20,6 @@ module _ (w : ℕ) (f : List Bool → ℕ) where
     pub fault : tick_refusal now 42 ≡ tick_refusal first 42
     pub begun : ((k ≡ 0) × (now ≡ first)) ⊎ (tick_refusal first 42 ≡ None)
 
-  none_yet : (t : Ticks) → after_so_many 0 t ≡ t
-  none_yet t = ap (λ k. record { taken = k; sent = t.sent; state = t.state }) (omega arith)
-
-  pub before_all : (n : ℕ) (s : State) → SoFar n 0 s s
-  before_all n s = record {
-    same = sym (none_yet (ticks w f (n - 0) s) ∙ ap (λ m. ticks w f m s) (omega arith));
-    fault = refl;
-    begun = inl (refl, refl);
-  }
-
   one_silent : (m : ℕ) (s : State) → is_some (frame_sent w f s) ≡ false → ticks w f (suc m) s ≡ one_more (ticks w f m (tick_state s))
   unfolding ticks
   one_silent m s h = ap (λ b. cond b (record { taken = 1; sent = frame_sent w f s; state = tick_state s }) (one_more (ticks w f m (tick_state s)))) h
@@ -92,13 +82,3 @@ module _ (w : ℕ) (f : List Bool → ℕ) where
       so.same ∙ ap (λ m. after_so_many n (ticks w f m now)) (omega arith) ∙ ap (after_so_many n) (no_more now)
       ∙ ap (λ j. record { taken = j; sent = None; state = now }) (omega arith) in
       unrefused n first last is none
-
-  pub first_refused : (n k : ℕ) (first now : State) (e : Refusal) → SoFar n k first now → Err e ≡ unless (tick_refusal now 42) (frame_sent w f now)
-      → (kept_or (tick_refusal first 42) first (ticks w f n first).state ≡ tick_after now 42) × (boxed_ticks w f n first ≡ refused e)
-  first_refused n k first now e so answered =
-      let here = err_unless (tick_refusal now 42) e (frame_sent w f now) answered in
-      let there : tick_refusal first 42 ≡ Some e = sym so.fault ∙ here in
-      let same : now ≡ first = elim so.begun [ inl p ↦ p.1 | inr h ↦ let z : ◌≡◌ {A = ℕ} 0 1 = cc in absurd (omega arith) ] in (
-        ap (λ x. kept_or x first (ticks w f n first).state) there ∙ sym same ∙ sym (ap (λ x. kept_or x now (tick_state now)) here),
-        ap (λ x. or_refused x (ticked (ticks w f n first).taken (ticks w f n first).sent)) there,
-      )

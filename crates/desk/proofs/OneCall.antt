@@ -29,16 +29,3 @@ is_there None x h = let z : ◌≡◌ {A = ℕ} 0 1 = cc in absurd (omega arith)
 
 pub is_that : (o : Option Written) (x : Outcome) (y : Written) → option_map outcome_of o ≡ Some x → o ≡ Some y → outcome_of y ≡ x
 is_that o x y h is = let e : ◌≡◌ {A = Option Outcome} (Some (outcome_of y)) (Some x) = sym (ap (option_map outcome_of) is) ∙ h in cc
-
--- what a tick answered, by its outcome
-pub refused_so : (r : Result Unit Refusal) (e : Refusal) → refused e ≡ answer_of r → Err e ≡ r
-refused_so (Ok x) e h = let z : ◌≡◌ {A = ℕ} 0 1 = cc in absurd (omega arith)
-refused_so (Err d) e h = cc
-
-pub done_so : (r : Result Unit Refusal) → done ≡ answer_of r → Ok tt ≡ r
-done_so (Ok x) h = refl
-done_so (Err d) h = let z : ◌≡◌ {A = ℕ} 0 1 = cc in absurd (omega arith)
-
-pub replied_so : (r : Result Unit Refusal) (bytes : List ℕ) → replied bytes ≡ answer_of r → Ok tt ≡ r
-replied_so (Ok x) bytes h = refl
-replied_so (Err d) bytes h = let z : ◌≡◌ {A = ℕ} 0 1 = cc in absurd (omega arith)

@@ -18,18 +18,8 @@ module _ (w : ℕ) (f : List Bool → ℕ) (u : ℕ) where
     pub begun : k ≡ 0 → now ≡ first
     pub accepted : 0 < k → tick_result w f first u ≡ Ok tt
 
-  none_yet : (t : CellTicks) → after_so_many 0 t ≡ t
-  none_yet t = ap (λ k. record { taken = k; inside = t.inside }) (omega arith)
-
   counted : (k : ℕ) (t : CellTicks) → after_so_many k (one_more t) ≡ after_so_many (k + 1) t
   counted k t = ap (λ j. record { taken = j; inside = t.inside }) (omega arith)
-
-  pub before_all : (n : ℕ) (c : Inside) → CellSoFar n 0 c c
-  before_all n c = record {
-    same = sym (none_yet (cell_ticks w f (n - 0) u c) ∙ ap (λ m. cell_ticks w f m u c) (omega arith));
-    begun = λ e. refl;
-    accepted = λ l. absurd (omega (arith, l));
-  }
 
   pub one_then : (m : ℕ) (c : Inside) (r : Result Unit Refusal) → tick_result w f c u ≡ r
       → cell_ticks w f (suc m) u c ≡ then_ticks r (ticked w f c u) (cell_ticks w f m u (ticked w f c u))
@@ -69,10 +59,6 @@ module _ (w : ℕ) (f : List Bool → ℕ) (u : ℕ) where
   pub stopped_inside : (n k : ℕ) (first now : Inside) (e : Refusal) → CellSoFar n k first now → k < n → Err e ≡ tick_result w f now u
       → ticked w f now u ≡ (cell_ticks w f n u first).inside
   stopped_inside n k first now e so more answered = sym (ap (λ t. t.inside) (stopped n k first now e so more answered))
-
-  pub first_refused : (n k : ℕ) (first now : Inside) (e : Refusal) → CellSoFar n k first now → k ≡ 0 → Err e ≡ tick_result w f now u → refused_in_cell e ≡ ticks_said w f n u first
-  first_refused n k first now e so none answered =
-      ap (λ r. ticks_said_by w f r (cell_ticks w f n u first)) (answered ∙ ap (λ c. tick_result w f c u) (so.begun none))
 
   pub later_refused : (n k : ℕ) (first now : Inside) (e : Refusal) → CellSoFar n k first now → k < n → 0 < k → Err e ≡ tick_result w f now u
       → ticks_taken k (option_map frame_aired (ticked w f now u).air) ≡ ticks_said w f n u first

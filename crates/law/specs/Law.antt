@@ -122,7 +122,7 @@ unfoldable pub latest : Inside → ℕ → List Payload → Option Payload
 latest c k [] = None
 latest c k (p ∷ ps) = cond (same_pipe (pipe_of_sender c p.sender) (pipe_of_sender c k)) (Some p) (latest c k ps)
 
--- the receiver's part, or its queue where there is none
+-- how many payloads stand in the RX queue of a unit; 0 where there is no unit
 abbrev pub rx_length : Option State → ℕ
 rx_length None = 0
 rx_length (Some s) = length (entries s.rx)

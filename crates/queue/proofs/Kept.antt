@@ -17,12 +17,6 @@ popped_rest (One a) = refl
 popped_rest (Two a b) = refl
 popped_rest (Three a b c) = refl
 
-pub few_entries : {T : Type 0} (q : Queue T) → length (entries q) ≤ 3
-few_entries Empty = omega arith
-few_entries (One a) = omega arith
-few_entries (Two a b) = omega arith
-few_entries (Three a b c) = omega arith
-
 pub drained : {T : Type 0} (q : Queue T) → eqb (length (entries q)) 0 ≡ true → q ≡ Empty
 drained Empty h = refl
 drained (One a) h = let z : ◌≡◌ {A = ℕ} 0 1 = cc in absurd (omega arith)
