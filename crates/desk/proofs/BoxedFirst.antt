@@ -97,12 +97,6 @@ module _ {C : Type 0} where
       ∙ emptied_at i None rest ∙ sym (one_more_empty i rest)
       ∙ sym (ap (λ ys. replicate i None ++ without_boxed ys) split) ∙ so.left
 
-  past_end : (xs : List (Slot C)) (i : ℕ) → length xs ≤ i → drop i xs ≡ []
-  past_end [] zero h = refl
-  past_end [] (suc i) h = refl
-  past_end (x ∷ xs) zero h = absurd (omega (arith, h))
-  past_end (x ∷ xs) (suc i) h = past_end xs i (omega (arith, h))
-
   -- ---- put back
 
   pub as_before : (xs : List (Slot C)) → with_boxed (boxed_first xs) (without_boxed xs) ≡ xs

@@ -7,7 +7,7 @@ use Rattle.unit.specs.Ticking.{tick_refusal, tick_state, tick_after}
 use Rattle.desk.specs.declared.answer.Frame.{Frame}
 use Rattle.desk.specs.Answers.{ticked, refused, or_refused}
 use Rattle.desk.specs.Boxed.{Ticks, one_more, frame_sent, ticks, boxed_ticks}
-use Rattle.desk.proofs.Replies.{ok_unless, err_unless}
+use Rattle.desk.proofs.Replies.{ok_unless}
 
 -- k ticks, then others
 abbrev pub after_so_many : ℕ → Ticks → Ticks

@@ -11,10 +11,6 @@ pub ok_unless : {X : Type 0} (x : Option Refusal) (v y : X) → Ok v ≡ unless 
 ok_unless None v y h = (refl, cc)
 ok_unless (Some e) v y h = let z : ◌≡◌ {A = ℕ} 0 1 = cc in absurd (omega arith)
 
-pub err_unless : {X : Type 0} (x : Option Refusal) (e : Refusal) (y : X) → Err e ≡ unless x y → x ≡ Some e
-err_unless None e y h = let z : ◌≡◌ {A = ℕ} 0 1 = cc in absurd (omega arith)
-err_unless (Some d) e y h = cc
-
 front : (n : ℕ) (head rest : List ℕ) → n ≡ length head → take n (head ++ rest) ≡ head
 front n head rest h = ap (λ k. take k (head ++ rest)) h ∙ take-append_seam head rest
 
