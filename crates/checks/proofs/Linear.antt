@@ -1,11 +1,12 @@
 -- A run is linear over exclusive or, in the register and in the string, whatever the width and the polynomial.
 -- Assumes nothing.
-use Rattle.std.proofs.Common.{◌≡◌, ℕ, zero, suc, pred, ◌*◌, ◌/◌, ◌%◌, ◌^◌, ◌<◌, Bool, true, false, cond, bit_xor, nat_eq, refl, sym, ◌∙◌, ap, ap₂, arith, mod-lt, pow_pos, lit<}
+use Rattle.std.proofs.Common.{◌≡◌, ℕ, zero, suc, pred, ◌*◌, ◌/◌, ◌%◌, ◌^◌, ◌<◌, Bool, true, false, cond, List, [], ◌∷◌, length, bit_xor, nat_eq, refl, sym, ◌∙◌, ap, ap₂, arith, mod-lt, pow_pos, lit<}
 use Rattle.std.proofs.Math.Nat.{add-zero}
 use Rattle.std.proofs.lemmas.Nat.{xor_shr, xor_mod, xor_block, xor_comm}
 use Rattle.std.specs.Int.Bits.{xor_assoc, xor_self, xor_zero_l}
 use Rattle.checks.specs.Bits.{bit, word}
 use Rattle.checks.specs.Crc.{differs, step, run}
+use Rattle.checks.proofs.Words.{bit_above}
 
 pub xor_shl : (k r s : ℕ) → bit_xor r s * 2 ^ k ≡ bit_xor (r * 2 ^ k) (s * 2 ^ k)
 xor_shl k r s =
@@ -77,3 +78,12 @@ run_xor w p (suc k) r s a b =
     ap (λ (n : ℕ). run w p n (word k (bit_xor a b)))
     (ap (step w p (bit_xor r s)) (bit_of_xor a b k) ∙ step_xor w p r s (bit a k) (bit b k))
     ∙ run_xor w p k (step w p r (bit a k)) (step w p s (bit b k)) a b
+
+-- a register beside another meets zeros
+pub apart : (w p r t : ℕ) (s : List Bool) → run w p (bit_xor r t) s ≡ bit_xor (run w p r (word (length s) 0)) (run w p t s)
+unfolding word
+apart w p r t [] = refl
+apart w p r t (x ∷ s) =
+    ap (λ (n : ℕ). run w p n s) (step_xor w p r t false x) ∙ apart w p (step w p r false) (step w p t x) s
+    ∙ ap (λ (y : Bool). bit_xor (run w p (step w p r y) (word (length s) 0)) (run w p (step w p t x) s))
+    (sym (bit_above 0 (length s) (pow_pos (length s))))

@@ -1,14 +1,14 @@
 -- Many bits at once, by tables of what a byte makes of the register 0.
 -- Assumes nothing.
-use Rattle.std.proofs.Common.{◌≡◌, ℕ, zero, suc, pred, cond, ◌+◌, ◌*◌, ◌/◌, ◌%◌, ◌^◌, ◌<◌, ◌≤◌, Bool, true, false, ◌&&◌, List, [], get_or, bit_xor, nat_eq, refl, sym, ◌∙◌, ap, ap₂, subst, inl, inr, arith, mod-lt, mod-eq_of_lt, pow_pos, mul-one, mul_assoc, pow-suc, lit<}
-use Rattle.std.proofs.Math.Nat.{add-zero, zero-add, zero-mod, zero-mul, mod-mod, mul-mod_left, pow-le-pow_right, mul_comm}
+use Rattle.std.proofs.Common.{◌≡◌, ℕ, zero, suc, pred, cond, ◌+◌, ◌*◌, ◌/◌, ◌%◌, ◌^◌, ◌<◌, ◌≤◌, ◌-◌, ◌⊎◌, Bool, true, false, ◌&&◌, List, [], ◌∷◌, ◌++◌, length, append_assoc, get_or, bit_xor, nat_eq, refl, sym, ◌∙◌, ap, ap₂, subst, inl, inr, arith, mod-lt, mod-eq_of_lt, pow_pos, mul-one, mul_assoc, pow-suc, lit<}
+use Rattle.std.proofs.Math.Nat.{add-zero, zero-add, zero-mod, mod-mod, mul-mod_left, pow-le-pow_right, mul_comm}
 use Rattle.std.proofs.lemmas.Bool.{cases_eq, eqb-true}
-use Rattle.std.proofs.lemmas.Nat.{xor_block, xor_comm, pow-add, shr-shr, mod-pow-add, field_of, shl-shr}
+use Rattle.std.proofs.lemmas.Nat.{xor_block, xor_comm, xor_lt, pow-add, shr-shr, mod-pow-add, field_of, shl-shr}
 use Rattle.std.specs.Int.Bits.{xor_assoc, xor_self, xor_zero_l, xor_zero_r}
-use Rattle.checks.specs.Bits.{bit, word}
+use Rattle.checks.specs.Bits.{bit, word, bits}
 use Rattle.checks.specs.Crc.{differs, step, run}
-use Rattle.checks.specs.Places.{run_append}
-use Rattle.checks.proofs.Linear.{run_xor}
+use Rattle.checks.specs.Places.{run_append, length_bits}
+use Rattle.checks.proofs.Linear.{run_xor, apart}
 use Rattle.checks.proofs.Words.{bit_above, mod_less, word_low, word_join}
 
 -- ---- a rule of 256 entries, by one test that computes
@@ -29,6 +29,12 @@ same_at f g (suc n) h b lt =
       | inl same ↦ subst (λ (k : ℕ). f k ≡ g k) (sym same) (eqb-true (f n) (g n) both.0)
       | inr other ↦ same_at f g n both.1 b (omega arith)
     ]
+
+-- ---- the two widths
+
+pub narrow : {w : ℕ} → (w ≡ 8) ⊎ (w ≡ 16) → w ≤ 16
+narrow (inl e) = omega (arith, e)
+narrow (inr e) = omega (arith, e)
 
 -- ---- zeros
 
@@ -108,46 +114,66 @@ block (suc v) p r c x hw h =
     ∙ ap₂ (λ (n y : ℕ). run (suc v) p n (word c y)) (xor_zero_r r)
     (sym (xor_assoc out out x) ∙ ap (λ (n : ℕ). bit_xor n x) (xor_self out) ∙ xor_zero_l x)
 
--- ---- byte by byte, the last first
+-- ---- the register's bits, combined with the first two bytes
 
--- the parts of a number, put together by exclusive or
-parts : (n m : ℕ) → n % 2 ^ (8 + m) ≡ bit_xor (n % 2 ^ m) (n / 2 ^ m % 2 ^ 8 * 2 ^ m)
-parts n m =
-    let lo : ℕ = n % 2 ^ m in
-    let hi : ℕ = n / 2 ^ m % 2 ^ 8 in
-    mod-pow-add n 8 m
-    ∙ sym
-    (ap₂ (λ (a b : ℕ). bit_xor a b) (sym (zero-add lo) ∙ ap (λ (z : ℕ). z + lo) (sym (zero-mul (2 ^ m)))) (sym (add-zero (hi * 2 ^ m)))
-    ∙ xor_block m 0 hi lo 0 (mod-lt n (pow_pos m)) (pow_pos m)
-    ∙ ap₂ (λ (a b : ℕ). a * 2 ^ m + b) (xor_zero_l hi) (xor_zero_r lo))
+two_bytes :
+    (w p r a b high low : ℕ)
+    → 0 < w → w ≤ 16 → r < 2 ^ w → b < 256 → low < 256 → r * 2 ^ (16 - w) ≡ high * 256 + low
+    → run w p r (word 8 a ++ word 8 b) ≡ run w p 0 (word 8 (bit_xor high a) ++ word 8 (bit_xor low b))
+two_bytes w p r a b high low hw hs h hb hl e =
+    let q : 16 ≡ 16 - w + w = omega arith in
+    let x : ℕ = a * 2 ^ 8 + b in
+    let top : ℕ = r * 2 ^ (16 - w) in
+    let moved : r * 2 ^ 16 ≡ top * 2 ^ w =
+    ap (λ (i : ℕ). r * 2 ^ i) q ∙ ap (λ (n : ℕ). r * n) (pow-add 2 (16 - w) w) ∙ sym (mul_assoc r (2 ^ (16 - w)) (2 ^ w)) in
+    let out : r * 2 ^ 16 / 2 ^ w ≡ high * 2 ^ 8 + low = ap (λ (n : ℕ). n / 2 ^ w) moved ∙ shl-shr top w ∙ e in
+    let none : r * 2 ^ 16 % 2 ^ w ≡ 0 = ap (λ (n : ℕ). n % 2 ^ w) moved ∙ mul-mod_left top (2 ^ w) in
+    ap (run w p r) (sym (word_join 8 8 a b hb)) ∙ sym (block w p r 16 x hw h)
+    ∙ ap₂ (λ (m n : ℕ). bit_xor (run w p 0 (word 16 (bit_xor m x))) n) out none
+    ∙ xor_zero_r _
+    ∙ ap (λ (n : ℕ). run w p 0 (word 16 n)) (xor_block 8 high a low b hl hb)
+    ∙ ap (run w p 0) (word_join 8 8 (bit_xor high a) (bit_xor low b) (xor_lt 8 low b hl hb))
 
-pub byte_more :
-    (w p n k : ℕ)
-    → run w p 0 (word (8 * (k + 1)) n)
-    ≡ bit_xor (run w p 0 (word (8 * k) n)) (run w p 0 (word (8 * (k + 1)) (n / 2 ^ (8 * k) % 2 ^ 8 * 2 ^ (8 * k))))
-byte_more w p n k =
-    let m : ℕ = 8 * k in
-    let lo : ℕ = n % 2 ^ m in
-    let hi : ℕ = n / 2 ^ m % 2 ^ 8 * 2 ^ m in
-    let q : 8 * (k + 1) ≡ 8 + m = omega arith in
-    let here : word (8 + m) n ≡ word (8 + m) (bit_xor lo hi) =
-    word_low (8 + m) n (bit_xor lo hi) (sym (mod-mod n (2 ^ (8 + m))) ∙ ap (λ (x : ℕ). x % 2 ^ (8 + m)) (parts n m)) in
-    let low : run w p 0 (word (8 + m) lo) ≡ run w p 0 (word m n) =
-    leading w p m 8 lo (mod-lt n (pow_pos m)) ∙ ap (run w p 0) (word_low m lo n (mod-mod n (2 ^ m))) in
-    subst (λ (j : ℕ). run w p 0 (word j n) ≡ bit_xor (run w p 0 (word m n)) (run w p 0 (word j hi))) (sym q)
-    (ap (run w p 0) here ∙ run_xor w p (8 + m) 0 0 lo hi ∙ ap (λ (x : ℕ). bit_xor x (run w p 0 (word (8 + m) hi))) low)
+pub first_two :
+    (w p r a b high low : ℕ) (rest : List ℕ)
+    → 0 < w → w ≤ 16 → r < 2 ^ w → b < 256 → low < 256 → r * 2 ^ (16 - w) ≡ high * 256 + low
+    → run w p 0 (bits (bit_xor high a ∷ bit_xor low b ∷ rest)) ≡ run w p r (bits (a ∷ b ∷ rest))
+unfolding bits
+first_two w p r a b high low rest hw hs h hb hl e =
+    let x : List Bool = word 8 (bit_xor high a) in
+    let y : List Bool = word 8 (bit_xor low b) in
+    ap (run w p 0) (sym (append_assoc x y (bits rest))) ∙ run_append w p 0 (x ++ y) (bits rest)
+    ∙ ap (λ (n : ℕ). run w p n (bits rest)) (sym (two_bytes w p r a b high low hw hs h hb hl e))
+    ∙ sym (run_append w p r (word 8 a ++ word 8 b) (bits rest)) ∙ ap (run w p r) (append_assoc (word 8 a) (word 8 b) (bits rest))
 
-pub zeros_behind :
-    (w p b k : ℕ) → run w p 0 (word (8 * (k + 1 + 1)) (b * 2 ^ (8 * (k + 1)))) ≡ run w p (run w p 0 (word (8 * (k + 1)) (b * 2 ^ (8 * k)))) (word 8 0)
-zeros_behind w p b k =
-    let j : ℕ = 8 * (k + 1) in
-    let a : ℕ = b * 2 ^ (8 * k) in
-    let q : 8 * (k + 1 + 1) ≡ j + 8 = omega arith in
+-- ---- byte by byte
+
+-- zeros behind a number
+zeros_behind : (w p j m a : ℕ) → run w p 0 (word (j + m) (a * 2 ^ m)) ≡ run w p (run w p 0 (word j a)) (word m 0)
+zeros_behind w p j m a =
+    ap (λ (x : ℕ). run w p 0 (word (j + m) x)) (sym (add-zero (a * 2 ^ m))) ∙ ap (run w p 0) (word_join j m a 0 (pow_pos m))
+    ∙ run_append w p 0 (word j a) (word m 0)
+
+-- the first byte and the others, each for itself
+pub byte_first :
+    (w p b : ℕ) (bs : List ℕ)
+    → run w p 0 (bits (b ∷ bs)) ≡ bit_xor (run w p 0 (word (8 * (length bs + 1)) (b * 2 ^ (8 * length bs)))) (run w p 0 (bits bs))
+unfolding bits
+byte_first w p b bs =
+    let m : ℕ = 8 * length bs in
+    let r : ℕ = run w p 0 (word 8 b) in
+    let q : 8 + m ≡ 8 * (length bs + 1) = omega arith in
+    run_append w p 0 (word 8 b) (bits bs) ∙ ap (λ (n : ℕ). run w p n (bits bs)) (sym (xor_zero_r r)) ∙ apart w p r 0 (bits bs)
+    ∙ ap (λ (n : ℕ). bit_xor n (run w p 0 (bits bs)))
+    (ap (λ (i : ℕ). run w p r (word i 0)) (length_bits bs) ∙ sym (zeros_behind w p 8 m b) ∙ ap (λ (i : ℕ). run w p 0 (word i (b * 2 ^ m))) q)
+
+one_more_behind : (w p b k : ℕ) → run w p 0 (word (8 * (k + 1 + 1)) (b * 2 ^ (8 * (k + 1)))) ≡ run w p (run w p 0 (word (8 * (k + 1)) (b * 2 ^ (8 * k)))) (word 8 0)
+one_more_behind w p b k =
+    let q : 8 * (k + 1 + 1) ≡ 8 * (k + 1) + 8 = omega arith in
     let e : 8 * (k + 1) ≡ 8 * k + 8 = omega arith in
-    let up : b * 2 ^ j ≡ a * 2 ^ 8 + 0 =
-    ap (λ (i : ℕ). b * 2 ^ i) e ∙ ap (λ (x : ℕ). b * x) (pow-add 2 (8 * k) 8) ∙ sym (mul_assoc b (2 ^ (8 * k)) (2 ^ 8))
-    ∙ sym (add-zero (a * 2 ^ 8)) in
-    ap₂ (λ (i x : ℕ). run w p 0 (word i x)) q up ∙ ap (run w p 0) (word_join j 8 a 0 (lit< tt)) ∙ run_append w p 0 (word j a) (word 8 0)
+    let up : b * 2 ^ (8 * (k + 1)) ≡ b * 2 ^ (8 * k) * 2 ^ 8 =
+    ap (λ (i : ℕ). b * 2 ^ i) e ∙ ap (λ (x : ℕ). b * x) (pow-add 2 (8 * k) 8) ∙ sym (mul_assoc b (2 ^ (8 * k)) (2 ^ 8)) in
+    ap₂ (λ (i x : ℕ). run w p 0 (word i x)) q up ∙ zeros_behind w p (8 * (k + 1)) 8 (b * 2 ^ (8 * k))
 
 -- each table by the one before
 pub entries :
@@ -163,4 +189,4 @@ entries w p tables first next (suc k) b hk hb =
     (next k (omega (arith, hk))) b hb
     ∙ ap (λ (r : ℕ). run w p r (word 8 0)) (entries w p tables first next k b (omega (arith, hk)) hb)
     ∙ subst (λ (i : ℕ). run w p (run w p 0 (word (8 * (k + 1)) (b * 2 ^ (8 * k)))) (word 8 0) ≡ run w p 0 (word (8 * (i + 1)) (b * 2 ^ (8 * i)))) (sym q)
-    (sym (zeros_behind w p b k))
+    (sym (one_more_behind w p b k))

@@ -44,63 +44,100 @@ pub trait Parameters {
     ghost begun: { START < 2 ^ WIDTH };
 }
 
-// A byte string of at most 8 bytes as one number.
-fn big_endian(bytes: &[u8]) -> u64
-    requires { length bytes.now ≤ 8 }
-    ensures same { word (8 * length bytes.now) result ≡ bits bytes.now }
-    ensures below { result < 2 ^ (8 * length bytes.now) }
+// What at most 8 bits of a number make of the register: its top bits are combined with them, the others move up.
+fn steps<P: Parameters>(register: u16, number: u8, count: usize) -> u16
+    requires below { register < 2 ^ P.WIDTH }
+    requires fits { number < 2 ^ count }
+    requires within { count ≤ 8 }
+    ensures below { result < 2 ^ P.WIDTH }
+    ensures same { result ≡ run P.WIDTH P.POLYNOMIAL register (word count number) }
 {
-    let mut number = 0;
-    for byte in bytes {
-        number = number << 8 | u64::from(*byte);
-    }
-    number
+    let moved = u32::from(register) << count;
+    let met = (moved >> P::WIDTH) as u8 ^ number;
+    let kept = moved & u32::MAX >> (32 - P::WIDTH);
+    P::entry(met, 0) ^ kept as u16
 }
 
-// What the low bytes of a number, so many, make of the register 0.
-fn from_none<P: Parameters>(number: u64, bytes: usize) -> u16
-    requires { bytes ≤ 8 }
-    ensures { result ≡ run P.WIDTH P.POLYNOMIAL 0 (word (8 * bytes) number) }
+// What at most 8 bytes make of the register 0. Each does so independently.
+#[inline(always)]
+fn from_none<P: Parameters>(bytes: &[u8]) -> u16
+    requires { length bytes.now ≤ 8 }
+    ensures { result ≡ run P.WIDTH P.POLYNOMIAL 0 (bits bytes.now) }
 {
     let mut register = 0;
-    for behind in 0..bytes {
-        register ^= P::entry((number >> (8 * behind) & 0xFF) as u8, behind);
+    for i in 0..bytes.len() {
+        register ^= P::entry(bytes[i], bytes.len() - 1 - i);
     }
     register
 }
 
-// What the low bits of a number make of the register: its top bits are combined with them, the others move up.
-fn steps<P: Parameters>(register: u16, number: u64, count: usize) -> u16
+// What at most 8 bytes make of the register: all its bits are combined with the first two.
+#[inline(always)]
+fn at_once<P: Parameters>(register: u16, bytes: &[u8]) -> u16
     requires below { register < 2 ^ P.WIDTH }
-    requires fits { number < 2 ^ count }
-    requires within { count ≤ 64 }
-    ensures { result ≡ run P.WIDTH P.POLYNOMIAL register (word count number) }
+    requires few { length bytes.now ≤ 8 }
+    ensures below { result < 2 ^ P.WIDTH }
+    ensures same { result ≡ run P.WIDTH P.POLYNOMIAL register (bits bytes.now) }
 {
-    let moved = u128::from(register) << count;
-    let met = (moved >> P::WIDTH) as u64 ^ number;
-    let kept = moved & u128::MAX >> (128 - P::WIDTH);
-    from_none::<P>(met, count.div_ceil(8)) ^ kept as u16
+    match bytes {
+        [first, second, rest @ ..] => {
+            let top = register << (16 - P::WIDTH);
+            let high = (top >> 8) as u8;
+            let low = (top & 0xFF) as u8;
+            P::entry(high ^ *first, rest.len() + 1)
+                ^ P::entry(low ^ *second, rest.len())
+                ^ from_none::<P>(rest)
+        }
+        [only] => steps::<P>(register, *only, 8),
+        [] => register,
+    }
+}
+
+// The register after the first bytes, so many, and the bytes left; all are left if there are fewer.
+#[inline(always)]
+fn front<P: Parameters>(register: u16, bytes: &[u8], count: usize) -> (u16, &[u8])
+    requires below { register < 2 ^ P.WIDTH }
+    requires few { count ≤ 8 }
+    ensures below { result.0 < 2 ^ P.WIDTH }
+    ensures same { run P.WIDTH P.POLYNOMIAL result.0 (bits result.1.now) ≡ run P.WIDTH P.POLYNOMIAL register (bits bytes.now) }
+    ensures no_more { length result.1.now ≤ length bytes.now }
+    ensures fewer { count ≤ length bytes.now → length result.1.now + count ≤ length bytes.now }
+{
+    match bytes.split_at_checked(count) {
+        Some((first, rest)) => (at_once::<P>(register, first), rest),
+        None => (register, bytes),
+    }
+}
+
+// The register after a byte string. The counts are literals, so that each is compiled without a loop.
+fn through<P: Parameters>(bytes: &[u8]) -> u16
+    ensures below { result < 2 ^ P.WIDTH }
+    ensures same { result ≡ run P.WIDTH P.POLYNOMIAL P.START (bits bytes.now) }
+{
+    let mut register = P::START;
+    let mut left = bytes;
+    while left.len() >= 8 {
+        (register, left) = front::<P>(register, left, 8);
+    }
+    let (register, left) = front::<P>(register, left, 4);
+    let (register, left) = front::<P>(register, left, 2);
+    at_once::<P>(register, left)
 }
 
 // The register after the first n bits, after all if there are fewer.
 fn remainder<P: Parameters>(bytes: &[u8], n: usize) -> u16
-    ensures { result ≡ run P.WIDTH P.POLYNOMIAL P.START (take n (bits bytes.now)) }
+    ensures below { result < 2 ^ P.WIDTH }
+    ensures same { result ≡ run P.WIDTH P.POLYNOMIAL P.START (take n (bits bytes.now)) }
 {
     let whole = bytes.len().min(n / 8);
-    let (eights, rest) = bytes[..whole].as_chunks::<8>();
-    let mut register = P::START;
-    for eight in eights {
-        register = steps::<P>(register, big_endian(eight), 64);
-    }
-    let number = big_endian(rest);
-    let count = 8 * rest.len();
+    let register = through::<P>(&bytes[..whole]);
     match bytes.get(whole) {
         Some(byte) => {
             let spare = n % 8;
-            let first = u64::from(*byte) >> (8 - spare);
-            steps::<P>(register, number << spare | first, count + spare)
+            let first = u16::from(*byte) >> (8 - spare);
+            steps::<P>(register, first as u8, spare)
         }
-        None => steps::<P>(register, number, count),
+        None => register,
     }
 }
 

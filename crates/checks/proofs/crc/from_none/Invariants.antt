@@ -1,7 +1,10 @@
-use Rattle.std.proofs.Common.{◌≡◌, ◌*◌}
-use Rattle.checks.specs.Bits.{word}
+use Rattle.std.proofs.Common.{◌≡◌, bit_xor, drop}
+use Rattle.checks.specs.Bits.{bits}
 use Rattle.checks.specs.Crc.{run}
 use Rattle.checks.proofs.crc.from_none.Given as goal
 
-abbrev pub invariant-loop-behind : goal.invariant-loop-behind
-invariant-loop-behind g l = l.register ≡ run g.P.Parameters.WIDTH g.P.Parameters.POLYNOMIAL 0 (word (8 * l.behind) l.number)
+abbrev pub invariant-loop-i : goal.invariant-loop-i
+invariant-loop-i g l =
+    let w = g.P.Parameters.WIDTH in
+    let p = g.P.Parameters.POLYNOMIAL in
+    bit_xor l.register (run w p 0 (bits (drop l.i l.bytes))) ≡ run w p 0 (bits l.bytes)
