@@ -7,20 +7,9 @@ use Rattle.checks.specs.Places.{length_bits}
 use Rattle.frames.specs.Octets.{number}
 use Rattle.frames.specs.Calls.{width_of}
 use Rattle.frames.specs.declared.layout.Layout.{Layout}
-use Rattle.frames.specs.declared.fields.AddressWidth.{AddressWidth}
-use Rattle.frames.specs.declared.fields.AddressWidth.TheVariants.{Three, Four, Five}
+use Rattle.frames.proofs.Widths.{width_low, width_high}
 use Rattle.frames.proofs.Inside.{long, miscounted, all_counted, said_inside}
 use Rattle.frames.proofs.reading.layout_of.Goals as goal
-
-low : (w : AddressWidth) → 3 ≤ width_of w
-low Three = omega arith
-low Four = omega arith
-low Five = omega arith
-
-high : (w : AddressWidth) → width_of w ≤ 5
-high Three = omega arith
-high Four = omega arith
-high Five = omega arith
 
 -- the length that was read stands after preamble and address
 said : (b : List Bool) (width place bits len : ℕ) → len ≡ bits → bits ≡ number (take 6 (drop place b)) → place ≡ 8 + 8 * width
@@ -53,7 +42,7 @@ returns-clause-value c =
     ∙ elim (cases_eq end n) [
       | inl e ↦
           cond-true (eqb end n) _ _ (eq-eqb end n e)
-          ∙ sym (cond-true _ _ _ (all_counted b n le size width len is (omega arith) (low c.args.wide) (high c.args.wide) (omega arith) (omega (arith, e, c.check.ensures.value)))
+          ∙ sym (cond-true _ _ _ (all_counted b n le size width len is (omega arith) (width_low c.args.wide) (width_high c.args.wide) (omega arith) (omega (arith, e, c.check.ensures.value)))
           ∙ ap Some (sym (said_inside b n le size width len is (omega (arith, e, c.check.ensures.value)))))
       | inr ne ↦
           cond-false (eqb end n) _ _ (ne_eqb end n ne)
