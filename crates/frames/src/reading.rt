@@ -33,7 +33,10 @@ fn layout_of(frame: &[u8], count: usize, wide: AddressWidth, size: usize) -> Opt
         return None;
     }
     let layout = Layout { wide, len };
-    (layout.check() + size == count).then_some(layout)
+    if layout.check() + size != count {
+        return None;
+    }
+    Some(layout)
 }
 
 // The bytes of an address, low byte first, behind a preamble. Each caller names its width by a number, for which there is
@@ -111,6 +114,7 @@ fn sound_of<C: Check>(frame: &[u8], count: usize, wide: AddressWidth) -> Option<
 }
 
 // What the first bits of a frame say to a reader of addresses of that width: nothing unless bit count and check are right.
+#[inline(always)]
 pub fn read<C: Check>(
     frame: &[u8],
     count: usize,
