@@ -1,6 +1,7 @@
 -- A frame buffer-after down part after part.
-use Rattle.std.proofs.Common.{◌≡◌, ℕ, ◌+◌, ◌-◌, ◌*◌, ◌/◌, ◌<◌, ◌≤◌, Bool, true, false, cond, ◌⊎◌, List, [], ◌∷◌, ◌++◌, reverse, length, get_or, take, drop, replicate, sym, refl, ap, ◌∙◌, subst, ap₂, inl, inr, arith, length-append}
+use Rattle.std.proofs.Common.{◌≡◌, ℕ, ◌+◌, ◌-◌, ◌*◌, ◌/◌, ◌%◌, ◌^◌, ◌<◌, ◌≤◌, Bool, true, false, cond, ◌⊎◌, List, [], ◌∷◌, ◌++◌, reverse, length, get_or, take, drop, replicate, sym, refl, ap, ◌∙◌, subst, ap₂, inl, inr, arith, length-append}
 use Rattle.std.specs.Int.{from_bool}
+use Rattle.std.specs.Int.Bits.{bit_or}
 use lib.Seq.{paste}
 use Rattle.std.proofs.lemmas.List.{append_assoc, length-reverse, get_or_append_left, take_at, drop_at, length-take-le, take-append-le, take-take}
 use Rattle.std.proofs.lemmas.List.Edits.{paste_all}
@@ -9,6 +10,7 @@ use Rattle.checks.specs.Places.{length_word, length_bits}
 use Rattle.frames.specs.Octets.{octets}
 use Rattle.frames.specs.Packet.{Packet, control, covered, preamble, frame_bits, buffer_after}
 use Rattle.frames.proofs.Places.{then_put, bits_append}
+use Rattle.frames.proofs.Words.{joined, below_join, word_join}
 use Rattle.frames.proofs.Octets.{front_octets, bits_octets, length_octets}
 
 word_one : (b : Bool) → word 1 (from_bool b) ≡ b ∷ []
@@ -57,54 +59,45 @@ preamble_from s hs e h =
     (get_or_append_left (bits (reverse s.address)) _ false 0 (omega (arith, length_bits (reverse s.address), ap length e))
     ∙ ap (λ (xs : List ℕ). get_or (bits xs) 0 false) (sym e))
 
+-- preamble with address, control and payload one after the other
 pub put_all :
-    (s : Packet) (width len pre pid flag : ℕ) (hs ps : List ℕ) (d b1 b2 b3 b4 b5 b6 : List Bool)
-    → length hs ≡ width → length ps ≡ len → hs ≡ reverse s.address → ps ≡ s.payload → pid ≡ s.pid → flag ≡ from_bool s.no_ack
-    → b1 ≡ paste d 0 (word 8 pre) 8
-    → b2 ≡ paste b1 8 (bits hs) (8 * length hs)
-    → b3 ≡ paste b2 (8 + 8 * width) (word 6 len) 6
-    → b4 ≡ paste b3 (8 + 8 * width + 6) (word 2 pid) 2
-    → b5 ≡ paste b4 (8 + 8 * width + 8) (word 1 flag) 1
-    → b6 ≡ paste b5 (8 + 8 * width + 9) (bits ps) (8 * length ps)
-    → b6 ≡ paste d 0 (word 8 pre ++ covered s) (8 + 8 * width + 9 + 8 * len)
+    (s : Packet) (pre width v len : ℕ) (d b1 b2 b3 : List Bool)
+    → length s.address ≡ width → length s.payload ≡ len → word 9 v ≡ control (length s.payload) s.pid s.no_ack
+    → b1 ≡ paste d 0 (word 8 pre ++ bits (reverse s.address)) (8 + 8 * width)
+    → b2 ≡ paste b1 (8 + 8 * width) (word 9 v) 9
+    → b3 ≡ paste b2 (8 + 8 * width + 9) (bits s.payload) (8 * len)
+    → b3 ≡ paste d 0 (word 8 pre ++ covered s) (8 + 8 * width + 9 + 8 * len)
 unfolding covered
-put_all s width len pre pid flag hs ps d b1 b2 b3 b4 b5 b6 lh lp eh ep ei ef f1 f2 f3 f4 f5 f6 =
+put_all s pre width v len d b1 b2 b3 la lp ev f1 f2 f3 =
     let s1 = word 8 pre in
-    let s2 = bits hs in
-    let s3 = word 6 len in
-    let s4 = word 2 s.pid in
-    let s5 = word 1 (from_bool s.no_ack) in
-    let s6 = bits ps in
-    let l1 : 8 ≡ length s1 = sym (length_word 8 pre) in
-    let l2 : 8 * length hs ≡ length s2 = sym (length_bits hs) in
-    let l3 : 6 ≡ length s3 = sym (length_word 6 len) in
-    let l4 : 2 ≡ length s4 = sym (length_word 2 s.pid) in
-    let l5 : 1 ≡ length s5 = sym (length_word 1 (from_bool s.no_ack)) in
-    let l6 : 8 * length ps ≡ length s6 = sym (length_bits ps) in
-    let f4' = f4 ∙ ap (λ (v : ℕ). paste b3 (8 + 8 * width + 6) (word 2 v) 2) ei in
-    let f5' = f5 ∙ ap (λ (v : ℕ). paste b4 (8 + 8 * width + 8) (word 1 v) 1) ef in
-    let p2 = then_put d s1 s2 b1 b2 8 (8 * length hs) l1 l2 f1 f2 in
-    let w2 : 8 + 8 * length hs ≡ 8 + 8 * width = omega arith in
-    let p2' = subst (λ (n : ℕ). b2 ≡ paste d 0 (s1 ++ s2) n) w2 p2 in
-    let n2 : 8 + 8 * width ≡ length (s1 ++ s2) = omega (arith, length-append s1 s2) in
-    let p3 = then_put d (s1 ++ s2) s3 b2 b3 (8 + 8 * width) 6 n2 l3 p2' f3 in
-    let n3 : 8 + 8 * width + 6 ≡ length (s1 ++ s2 ++ s3) = omega (arith, length-append (s1 ++ s2) s3) in
-    let p4 = then_put d (s1 ++ s2 ++ s3) s4 b3 b4 (8 + 8 * width + 6) 2 n3 l4 p3 f4' in
-    let w4 : 8 + 8 * width + 6 + 2 ≡ 8 + 8 * width + 8 = omega arith in
-    let p4' = subst (λ (n : ℕ). b4 ≡ paste d 0 (s1 ++ s2 ++ s3 ++ s4) n) w4 p4 in
-    let n4 : 8 + 8 * width + 8 ≡ length (s1 ++ s2 ++ s3 ++ s4) = omega (arith, length-append (s1 ++ s2 ++ s3) s4) in
-    let p5 = then_put d (s1 ++ s2 ++ s3 ++ s4) s5 b4 b5 (8 + 8 * width + 8) 1 n4 l5 p4' f5' in
-    let w5 : 8 + 8 * width + 8 + 1 ≡ 8 + 8 * width + 9 = omega arith in
-    let p5' = subst (λ (n : ℕ). b5 ≡ paste d 0 (s1 ++ s2 ++ s3 ++ s4 ++ s5) n) w5 p5 in
-    let n5 : 8 + 8 * width + 9 ≡ length (s1 ++ s2 ++ s3 ++ s4 ++ s5) = omega (arith, length-append (s1 ++ s2 ++ s3 ++ s4) s5) in
-    let p6 = then_put d (s1 ++ s2 ++ s3 ++ s4 ++ s5) s6 b5 b6 (8 + 8 * width + 9) (8 * length ps) n5 l6 p5' f6 in
-    let w6 : 8 + 8 * width + 9 + 8 * length ps ≡ 8 + 8 * width + 9 + 8 * len = omega arith in
-    let e : s1 ++ s2 ++ s3 ++ s4 ++ s5 ++ s6 ≡ s1 ++ (s2 ++ ((s3 ++ (s4 ++ s5)) ++ s6)) = simp append_assoc in
-    let q : s2 ++ ((s3 ++ (s4 ++ s5)) ++ s6) ≡ bits (reverse s.address) ++ (control (length s.payload) s.pid s.no_ack ++ bits s.payload) =
-    ap₂ (λ (xs : List ℕ) (t : List Bool). bits xs ++ t) eh
-    (ap₂ (λ (c : List Bool) (t : List ℕ). c ++ bits t)
-    (ap₂ (λ (n : ℕ) (t : List Bool). word 6 n ++ (s4 ++ t)) (sym lp ∙ ap length ep) (word_one s.no_ack)) ep) in
-    p6 ∙ ap₂ (λ (t : List Bool) (n : ℕ). paste d 0 t n) (e ∙ ap (λ (t : List Bool). s1 ++ t) q) w6
+    let s2 = bits (reverse s.address) in
+    let s3 = word 9 v in
+    let s4 = bits s.payload in
+    let n1 : 8 + 8 * width ≡ length (s1 ++ s2) =
+    omega (arith, length-append s1 s2, length_word 8 pre, length_bits (reverse s.address), length-reverse s.address) in
+    let l3 = sym (length_word 9 v) in
+    let p2 = then_put d (s1 ++ s2) s3 b1 b2 (8 + 8 * width) 9 n1 l3 f1 f2 in
+    let n2 : 8 + 8 * width + 9 ≡ length (s1 ++ s2 ++ s3) = omega (arith, length-append (s1 ++ s2) s3) in
+    let p3 = then_put d (s1 ++ s2 ++ s3) s4 b2 b3 (8 + 8 * width + 9) (8 * len) n2 (omega (arith, length_bits s.payload)) p2 f3 in
+    p3 ∙ ap (λ (t : List Bool). paste d 0 t (8 + 8 * width + 9 + 8 * len))
+    (append_assoc (s1 ++ s2) s3 s4 ∙ append_assoc s1 s2 (s3 ++ s4) ∙ ap (λ (t : List Bool). s1 ++ (s2 ++ (t ++ s4))) ev)
+
+-- the control bits as one number
+pub control_word : (len pid flag : ℕ) (b : Bool) → len < 2 ^ 13 → pid < 2 ^ 2 → flag ≡ from_bool b
+    → word 9 (bit_or (bit_or (len * 2 ^ 2 % 65536) pid * 2 ^ 1 % 65536) flag) ≡ control len pid b
+control_word len pid flag b lt lp e =
+    let lf : flag < 2 ^ 1 = omega (arith, from_bool_below b) in
+    let m = len * 2 ^ 2 + pid in
+    let a1 : bit_or (len * 2 ^ 2 % 65536) pid ≡ m = joined 13 2 len pid lt lp (omega arith) in
+    let a2 : bit_or (bit_or (len * 2 ^ 2 % 65536) pid * 2 ^ 1 % 65536) flag ≡ m * 2 ^ 1 + flag =
+    ap (λ (x : ℕ). bit_or (x * 2 ^ 1 % 65536) flag) a1 ∙ joined 15 1 m flag (below_join 13 2 len pid lt lp) lf (omega arith) in
+    ap (word 9) a2 ∙ word_join 8 1 m flag lf
+    ∙ ap₂ (λ (x y : List Bool). x ++ y) (word_join 6 2 len pid lp) (ap (word 1) e ∙ word_one b)
+    ∙ append_assoc (word 6 len) (word 2 pid) (b ∷ [])
+  where
+    from_bool_below : (b : Bool) → from_bool b < 2
+    from_bool_below true = omega arith
+    from_bool_below false = omega arith
 
 -- what the check covers, in the bits after the preamble
 pub covered_read :

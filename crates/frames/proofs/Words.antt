@@ -1,10 +1,10 @@
 -- Numbers cut and joined, in bits; a byte in the bits of its buffer.
-use Rattle.std.proofs.Common.{◌≡◌, ℕ, zero, suc, ◌+◌, ◌-◌, ◌*◌, ◌/◌, ◌%◌, ◌^◌, ◌<◌, ◌≤◌, Bool, eqb, List, [], ◌∷◌, ◌++◌, length, get_or, take, drop, set, sym, refl, ap, ◌∙◌, subst, ap₂, arith, mod-eq_of_lt, mul-le-mul_right, suc-add, zero-add, take-append-drop, take-add, length-append, inl, inr}
+use Rattle.std.proofs.Common.{◌≡◌, ℕ, zero, suc, ◌+◌, ◌-◌, ◌*◌, ◌/◌, ◌%◌, ◌^◌, ◌<◌, ◌≤◌, Bool, eqb, List, [], ◌∷◌, ◌++◌, length, get_or, take, drop, set, sym, refl, ap, ◌∙◌, subst, ap₂, arith, mod-eq_of_lt, mul-le-mul_right, suc-add, zero-add, take-append-drop, take-add, inl, inr}
 use Rattle.std.specs.Int.Bits.{bit_and, bit_or}
 use lib.Seq.{paste, take-append-add, drop-append-add}
 use Rattle.std.proofs.lemmas.Nat.{and_mask, or_shifted, shr-shr, shr_high, mod_low, mod_below, pow_pos, pow-add, shl_whole, shr_below}
 use Rattle.std.proofs.lemmas.Nat.Bits.{ones_shr}
-use Rattle.std.proofs.lemmas.List.{append_assoc, append-nil, take_all, take_at, drop_at, take-append-le, drop-append-le, length-take-le, length-drop, drop-drop, drop_more, take_more, take_more_set, set_split, drop-set-lt, length-take, get_or-take, get_or-drop, get_or_past}
+use Rattle.std.proofs.lemmas.List.{append_assoc, append-nil, take_all, take_at, drop_at, take-append-le, drop-append-le, length-take-le, length-drop, drop-drop, drop_more, take_more, take_more_set, set_split, length-take, get_or-take, get_or-drop, get_or_past}
 use Rattle.std.proofs.lemmas.Bool.{cases_lt}
 use Rattle.std.proofs.lemmas.List.Edits.{paste-paste, paste_all}
 use Rattle.std.specs.Int.{w64, byte_at, bytes_high_first, from_be_bytes, to_be_bytes}
@@ -12,11 +12,11 @@ use Rattle.std.specs.Simd.{first_chunks}
 use Rattle.std.proofs.Common.{pow-suc}
 use Rattle.std.proofs.lemmas.Nat.{be_bytes_8}
 use Rattle.std.proofs.lemmas.List.{drop_all}
-use Rattle.std.proofs.lemmas.List.Edits.{take-paste, drop-paste}
+use Rattle.std.proofs.lemmas.List.Edits.{take-paste, drop-paste, length-paste}
 use Rattle.checks.specs.Bits.{word, bits}
 use Rattle.checks.specs.Places.{length_word, length_bits}
 use Rattle.frames.specs.Octets.{number, octets}
-use Rattle.frames.proofs.Octets.{same_number, bits_drop, number_append, number_back, octets_back, octets_front}
+use Rattle.frames.proofs.Octets.{same_number, bits_drop, number_append, octets_back, octets_front}
 use Rattle.frames.proofs.Places.{bits_append, bits_one}
 
 -- ---- a number of two parts
@@ -61,7 +61,7 @@ ones v k le =
     ap (bit_and v) (ones_shr 8 (8 - k) (omega arith) ∙ ap (λ (n : ℕ). 2 ^ n - 1) s) ∙ and_mask v k
 
 -- a number shifted, with another in the place that is free
-joined : (a b h l : ℕ) → h < 2 ^ a → l < 2 ^ b → a + b ≤ 16 → bit_or (h * 2 ^ b % 65536) l ≡ h * 2 ^ b + l
+pub joined : (a b h l : ℕ) → h < 2 ^ a → l < 2 ^ b → a + b ≤ 16 → bit_or (h * 2 ^ b % 65536) l ≡ h * 2 ^ b + l
 joined a b h l u v le = ap (λ (n : ℕ). bit_or n l) (shl_whole h a b 16 u le) ∙ or_shifted h b l v
 
 pub across_right :
@@ -200,62 +200,32 @@ get_thrice b at room rest count first second third n le small l e1 e2 e3 u1 u2 u
 
 -- bytes copied from a byte's start on
 pub get_copied :
-    (xs : List ℕ) (at n : ℕ) → ((i : ℕ) → get_or xs i 0 < 256) → at % 8 ≡ 0 → at + 8 * n ≤ 8 * length xs
-    → take n (drop (at / 8) xs) ≡ octets n (drop at (bits xs))
-get_copied xs at n h e l =
-    let k = at / 8 in
-    let a : at ≡ 8 * k = omega arith in
+    (xs : List ℕ) (k n : ℕ) → ((i : ℕ) → get_or xs i 0 < 256) → k + n ≤ length xs → take n (drop k xs) ≡ octets n (drop (8 * k) (bits xs))
+get_copied xs k n h l =
     let ys = take n (drop k xs) in
     let ly : length ys ≡ n = length-take-le n (drop k xs) (omega (arith, length-drop k xs)) in
-    let b : drop at (bits xs) ≡ bits ys ++ bits (drop n (drop k xs)) =
-    ap (λ (m : ℕ). drop m (bits xs)) a ∙ bits_drop k xs ∙ ap bits (sym (take-append-drop n (drop k xs))) ∙ bits_append ys (drop n (drop k xs)) in
+    let b : drop (8 * k) (bits xs) ≡ bits ys ++ bits (drop n (drop k xs)) =
+    bits_drop k xs ∙ ap bits (sym (take-append-drop n (drop k xs))) ∙ bits_append ys (drop n (drop k xs)) in
     sym (ap (octets n) b ∙ octets_front n (bits ys) (bits (drop n (drop k xs))) (omega (arith, length_bits ys))
     ∙ ap (λ (m : ℕ). octets m (bits ys)) (sym ly)
     ∙ octets_back ys (λ i. below i))
   where
-    below : (i : ℕ) → get_or (take n (drop (at / 8) xs)) i 0 < 256
+    below : (i : ℕ) → get_or (take n (drop k xs)) i 0 < 256
     below i =
         elim (cases_lt i n) [
-          | inl lt ↦ rw (get_or-take n (drop (at / 8) xs) i 0 lt, get_or-drop (at / 8) xs i 0) (h (at / 8 + i))
-          | inr ge ↦ rw (get_or_past (take n (drop (at / 8) xs)) i 0 (omega (arith, length-take n (drop (at / 8) xs)))) (omega arith)
+          | inl lt ↦ rw (get_or-take n (drop k xs) i 0 lt, get_or-drop k xs i 0) (h (k + i))
+          | inr ge ↦ rw (get_or_past (take n (drop k xs)) i 0 (omega (arith, length-take n (drop k xs)))) (omega arith)
         ]
 
 pub put_copied :
-    (xs ys : List ℕ) (at : ℕ) → at % 8 ≡ 0 → at + 8 * length ys ≤ 8 * length xs
-    → bits (paste xs (at / 8) ys (length ys)) ≡ paste (bits xs) at (bits ys) (8 * length ys)
-put_copied xs ys at e l =
-    let k = at / 8 in
+    (xs ys : List ℕ) (k : ℕ) → k + length ys ≤ length xs → bits (paste xs k ys (length ys)) ≡ paste (bits xs) (8 * k) (bits ys) (8 * length ys)
+put_copied xs ys k l =
     let n = length ys in
-    let a : at ≡ 8 * k = omega arith in
-    let z : at + 8 * n ≡ 8 * (k + n) = omega arith in
+    let z : 8 * k + 8 * n ≡ 8 * (k + n) = omega arith in
     ap bits (paste_all xs k ys n refl) ∙ bits_append (take k xs) (ys ++ drop (k + n) xs)
-    ∙ ap₂ (λ (u v : List Bool). u ++ v) (sym (ap (λ (m : ℕ). take m (bits xs)) a ∙ bits_take k xs (omega arith)))
+    ∙ ap₂ (λ (u v : List Bool). u ++ v) (sym (bits_take k xs (omega arith)))
     (bits_append ys (drop (k + n) xs) ∙ ap (λ (u : List Bool). bits ys ++ u) (sym (ap (λ (m : ℕ). drop m (bits xs)) z ∙ bits_drop (k + n) xs)))
-    ∙ sym (paste_all (bits xs) at (bits ys) (8 * n) (sym (length_bits ys)))
-
--- one more byte read across two
-pub get_across :
-    (xs : List ℕ) (at i r : ℕ) → at / 8 + i + 1 < length xs → r < 256
-    → word 8 r ≡ take 8 (drop (at % 8) (word 8 (get_or xs (at / 8 + i) 0) ++ word 8 (get_or xs (at / 8 + i + 1) 0)))
-    → r ≡ number (take 8 (drop (8 * i) (drop at (bits xs))))
-get_across xs at i r h lt e =
-    let k = at / 8 + i in
-    let s = at % 8 in
-    let a = word 8 (get_or xs k 0) in
-    let b = word 8 (get_or xs (k + 1) 0) in
-    let rest = bits (drop (k + 1 + 1) xs) in
-    let la = length_word 8 (get_or xs k 0) in
-    let lb = length_word 8 (get_or xs (k + 1) 0) in
-    let m : at + 8 * i ≡ 8 * k + s = omega arith in
-    let n : 8 * (k + 1) ≡ 8 * k + 8 = omega arith in
-    let two : drop (8 * k) (bits xs) ≡ a ++ b ++ rest =
-    bits_from xs k (omega arith) ∙ ap (λ (u : List Bool). a ++ u) (sym (bits_drop (k + 1) xs) ∙ bits_from xs (k + 1) h) ∙ sym (append_assoc a b rest) in
-    let d : drop (8 * i) (drop at (bits xs)) ≡ drop s (a ++ b) ++ rest =
-    drop-drop (8 * i) at (bits xs) ∙ ap (λ (q : ℕ). drop q (bits xs)) m ∙ sym (drop-drop s (8 * k) (bits xs)) ∙ ap (drop s) two
-    ∙ drop-append-le s (a ++ b) rest (omega (arith, length-append a b, la)) in
-    let t : take 8 (drop (8 * i) (drop at (bits xs))) ≡ word 8 r =
-    ap (take 8) d ∙ take-append-le 8 (drop s (a ++ b)) rest (omega (arith, length-drop s (a ++ b), length-append a b, la, lb)) ∙ sym e in
-    sym (ap number t ∙ number_back 8 r lt)
+    ∙ sym (paste_all (bits xs) (8 * k) (bits ys) (8 * n) (sym (length_bits ys)))
 
 -- ---- bytes written across two
 
@@ -273,120 +243,135 @@ bits_up_to xs k s h le =
     ∙ ap₂ (λ (u v : List Bool). u ++ v) (bits_take k xs (omega arith))
     (ap (take s) (bits_from xs k h) ∙ take-append-le s w (bits (drop (k + 1) xs)) (omega (arith, length_word 8 (get_or xs k 0))))
 
--- What is written after i of the bytes: byte at / 8 + i is not, and its first bits are the last ones of the byte `last`.
-abbrev pub Written : (old : List ℕ) (at : ℕ) (src : List ℕ) (now : List ℕ) (last i : ℕ) → Type 0
-Written old at src now last i =
-    (bits (take (at / 8 + i) now) ++ drop (8 - at % 8) (word 8 last) ≡ take at (bits old) ++ bits (take i src))
-    × (drop (at / 8 + i) now ≡ drop (at / 8 + i) old)
+-- What is filled after i of the bytes: the last bits of the byte `last` are left.
+abbrev pub Filled : (before : List Bool) (src : List ℕ) (place : ℕ) (now : List ℕ) (last i : ℕ) → Type 0
+Filled before src place now last i = bits (take i now) ++ drop (8 - place) (word 8 last) ≡ before ++ bits (take i src)
 
-pub written_none :
-    (old : List ℕ) (at : ℕ) (src : List ℕ) (last : ℕ) → at / 8 < length old
-    → word 8 last ≡ take 8 (drop (at % 8) (word 8 0 ++ word 8 (get_or old (at / 8) 0))) → Written old at src old last 0
+pub filled_none : (src now : List ℕ) (place first : ℕ) → Filled (drop (8 - place) (word 8 first)) src place now first 0
 unfolding bits
-written_none old at src last h e =
-    let k = at / 8 in
-    let s = at % 8 in
-    let w = word 8 (get_or old k 0) in
-    let z = length_word 8 0 in
-    let d : drop (8 - s) (word 8 last) ≡ take s w =
-    ap (drop (8 - s)) (e ∙ two_parts s (word 8 0) w z (length_word 8 (get_or old k 0)) (omega arith))
-    ∙ drop_at (drop s (word 8 0)) (take s w) (8 - s) (omega (arith, length-drop s (word 8 0), z)) in
-    let m : 8 * k + s ≡ at = omega arith in
-    let q : k + 0 ≡ k = omega arith in (
-      ap₂ (λ (n : ℕ) (u : List Bool). bits (take n old) ++ u) q d ∙ sym (bits_up_to old k s h (omega arith))
-          ∙ ap (λ (n : ℕ). take n (bits old)) m ∙ sym (append-nil (take at (bits old))),
-      refl,
-    )
+filled_none src now place first = sym (append-nil (drop (8 - place) (word 8 first)))
 
-pub written_more :
-    (old : List ℕ) (at : ℕ) (src now : List ℕ) (last i b y : ℕ) → i < length src → at / 8 + i < length now → b ≡ get_or src i 0
-    → word 8 y ≡ take 8 (drop (8 - at % 8) (word 8 last ++ word 8 b))
-    → Written old at src now last i → Written old at src (set now (at / 8 + i) y) b (i + 1)
-written_more old at src now last i b y hs hn eb e w =
-    let k = at / 8 + i in
-    let s = 8 - at % 8 in
-    let p = bits (take k now) in
+pub filled_one :
+    (before : List Bool) (src now : List ℕ) (place last i b y : ℕ) → i < length src → i < length now → place ≤ 8 → b ≡ get_or src i 0
+    → word 8 y ≡ take 8 (drop (8 - place) (word 8 last ++ word 8 b))
+    → Filled before src place now last i → Filled before src place (set now i y) b (i + 1)
+filled_one before src now place last i b y hs hn le eb e w =
+    let s = 8 - place in
+    let p = bits (take i now) in
     let a = word 8 b in
-    let n : at / 8 + (i + 1) ≡ k + 1 = omega arith in
     let ey : word 8 y ≡ drop s (word 8 last) ++ take s a = e ∙ two_parts s (word 8 last) a (length_word 8 last) (length_word 8 b) (omega arith) in
-    let one : bits (take (k + 1) (set now k y)) ≡ p ++ (drop s (word 8 last) ++ take s a) =
-    ap bits (take_more_set now k y hn) ∙ bits_append (take k now) (y ∷ []) ∙ ap (λ (u : List Bool). p ++ u) (bits_one y ∙ ey) in
+    let one : bits (take (i + 1) (set now i y)) ≡ p ++ (drop s (word 8 last) ++ take s a) =
+    ap bits (take_more_set now i y hn) ∙ bits_append (take i now) (y ∷ []) ∙ ap (λ (u : List Bool). p ++ u) (bits_one y ∙ ey) in
     let src' : bits (take (i + 1) src) ≡ bits (take i src) ++ a =
     ap bits (take_more src i 0 hs ∙ ap (λ (x : ℕ). take i src ++ x ∷ []) (sym eb)) ∙ bits_append (take i src) (b ∷ [])
     ∙ ap (λ (u : List Bool). bits (take i src) ++ u) (bits_one b) in
-    let step : (xs : List ℕ) → drop (k + 1) xs ≡ drop 1 (drop k xs) = λ xs. sym (drop-drop 1 k xs) in (
-      ap (λ (m : ℕ). bits (take m (set now k y)) ++ drop s a) n ∙ ap (λ (u : List Bool). u ++ drop s a) (one ∙ sym (append_assoc p (drop s (word 8 last)) (take s a)))
-          ∙ append_assoc (p ++ drop s (word 8 last)) (take s a) (drop s a)
-          ∙ ap₂ (λ (u v : List Bool). u ++ v) w.0 (take-append-drop s a)
-          ∙ append_assoc (take at (bits old)) (bits (take i src)) a ∙ ap (λ (u : List Bool). take at (bits old) ++ u) (sym src'),
-      rw n (drop-set-lt (k + 1) now k y (omega arith) ∙ step now ∙ ap (drop 1) w.1 ∙ sym (step old)),
-    )
+    ap (λ (u : List Bool). u ++ drop s a) (one ∙ sym (append_assoc p (drop s (word 8 last)) (take s a)))
+    ∙ append_assoc (p ++ drop s (word 8 last)) (take s a) (drop s a)
+    ∙ ap₂ (λ (u v : List Bool). u ++ v) w (take-append-drop s a)
+    ∙ append_assoc before (bits (take i src)) a ∙ ap (λ (u : List Bool). before ++ u) (sym src')
 
 -- eight bytes at once
-pub written_eight :
-    (old : List ℕ) (at : ℕ) (src now : List ℕ) (last i : ℕ) (ys eight : List ℕ) → i + 8 ≤ length src → at / 8 + i + 8 ≤ length now
-    → eight ≡ take 8 (drop i src) → length ys ≡ 8 → bits ys ≡ drop (8 - at % 8) (word 8 last) ++ take (64 - at % 8) (bits eight)
-    → Written old at src now last i → Written old at src (paste now (at / 8 + i) ys 8) (get_or eight 7 0) (i + 8)
+pub filled_eight :
+    (before : List Bool) (src now : List ℕ) (place last i : ℕ) (ys eight : List ℕ) → i + 8 ≤ length src → i + 8 ≤ length now → place ≤ 8
+    → eight ≡ take 8 (drop i src) → length ys ≡ 8 → bits ys ≡ drop (8 - place) (word 8 last) ++ take (64 - place) (bits eight)
+    → Filled before src place now last i → Filled before src place (paste now i ys 8) (get_or eight 7 0) (i + 8)
 unfolding bits
-written_eight old at src now last i ys eight hs hn ee ly ey w =
-    let k = at / 8 + i in
-    let s = at % 8 in
-    let p = bits (take k now) in
+filled_eight before src now place last i ys eight hs hn small ee ly ey w =
+    let s = place in
+    let p = bits (take i now) in
     let d = drop (8 - s) (word 8 last) in
     let b = bits eight in
     let x = word 8 (get_or eight 7 0) in
     let le : length eight ≡ 8 = ap length ee ∙ length-take-le 8 (drop i src) (omega (arith, length-drop i src)) in
-    let n : at / 8 + (i + 8) ≡ k + 8 = omega arith in
     let q : 64 - s ≡ 56 + (8 - s) = omega arith in
     let tail : drop (64 - s) b ≡ drop (8 - s) x =
     ap (λ (m : ℕ). drop m b) q ∙ sym (drop-drop (8 - s) 56 b)
     ∙ ap (drop (8 - s)) (bits_from eight 7 (omega (arith, le)) ∙ ap (λ (zs : List ℕ). x ++ bits zs) (drop_all 8 eight (omega (arith, le))) ∙ append-nil x) in
-    let one : bits (take (k + 8) (paste now k ys 8)) ≡ p ++ (d ++ take (64 - s) b) =
-    ap bits (take-paste now k ys 8 (omega arith) (omega (arith, ly))) ∙ bits_append (take k now) (take 8 ys)
+    let one : bits (take (i + 8) (paste now i ys 8)) ≡ p ++ (d ++ take (64 - s) b) =
+    ap bits (take-paste now i ys 8 (omega arith) (omega (arith, ly))) ∙ bits_append (take i now) (take 8 ys)
     ∙ ap (λ (u : List Bool). p ++ u) (ap bits (take_all 8 ys (omega (arith, ly))) ∙ ey) in
     let src' : bits (take (i + 8) src) ≡ bits (take i src) ++ b =
     ap bits (take-add i 8 src) ∙ bits_append (take i src) (take 8 (drop i src)) ∙ ap (λ (zs : List ℕ). bits (take i src) ++ bits zs) (sym ee) in
-    let step : (xs : List ℕ) → drop (k + 8) xs ≡ drop 8 (drop k xs) = λ xs. sym (drop-drop 8 k xs) in (
-      ap (λ (m : ℕ). bits (take m (paste now k ys 8)) ++ drop (8 - s) x) n
-          ∙ ap (λ (u : List Bool). u ++ drop (8 - s) x) (one ∙ sym (append_assoc p d (take (64 - s) b)))
-          ∙ append_assoc (p ++ d) (take (64 - s) b) (drop (8 - s) x)
-          ∙ ap₂ (λ (u v : List Bool). u ++ v) w.0 (ap (λ (u : List Bool). take (64 - s) b ++ u) (sym tail) ∙ take-append-drop (64 - s) b)
-          ∙ append_assoc (take at (bits old)) (bits (take i src)) b ∙ ap (λ (u : List Bool). take at (bits old) ++ u) (sym src'),
-      rw n (drop-paste now k ys 8 (omega arith) (omega (arith, ly)) ∙ step now ∙ ap (drop 8) w.1 ∙ sym (step old)),
-    )
+    ap (λ (u : List Bool). u ++ drop (8 - s) x) (one ∙ sym (append_assoc p d (take (64 - s) b)))
+    ∙ append_assoc (p ++ d) (take (64 - s) b) (drop (8 - s) x)
+    ∙ ap₂ (λ (u v : List Bool). u ++ v) w (ap (λ (u : List Bool). take (64 - s) b ++ u) (sym tail) ∙ take-append-drop (64 - s) b)
+    ∙ append_assoc before (bits (take i src)) b ∙ ap (λ (u : List Bool). before ++ u) (sym src')
 
-pub written_all :
-    (old : List ℕ) (at : ℕ) (src now : List ℕ) (last rest z : ℕ) → at / 8 + length src < length now
-    → word 8 rest ≡ take 8 (drop (at % 8) (word 8 (get_or now (at / 8 + length src) 0) ++ word 8 0))
+-- Bytes were filled with the bits before the place and with others; what is left of these and the bits behind make the last byte.
+pub put_across :
+    (old : List ℕ) (at : ℕ) (src out : List ℕ) (first last rest z : ℕ) → at / 8 + length src < length old → length out ≡ length src
+    → word 8 first ≡ take 8 (drop (at % 8) (word 8 0 ++ word 8 (get_or old (at / 8) 0)))
+    → bits out ++ drop (8 - at % 8) (word 8 last) ≡ drop (8 - at % 8) (word 8 first) ++ bits src
+    → word 8 rest ≡ take 8 (drop (at % 8) (word 8 (get_or (paste old (at / 8) out (length src)) (at / 8 + length src) 0) ++ word 8 0))
     → word 8 z ≡ take 8 (drop (8 - at % 8) (word 8 last ++ word 8 rest))
-    → Written old at src now last (length src) → bits (set now (at / 8 + length src) z) ≡ paste (bits old) at (bits src) (8 * length src)
+    → bits (set (paste old (at / 8) out (length src)) (at / 8 + length src) z) ≡ paste (bits old) at (bits src) (8 * length src)
 unfolding bits
-written_all old at src now last rest z h er ez w =
+put_across old at src out first last rest z h lo ef eo er ez =
     let n = length src in
-    let k = at / 8 + n in
+    let k = at / 8 in
     let s = at % 8 in
-    let x = word 8 (get_or now k 0) in
-    let lx = length_word 8 (get_or now k 0) in
-    let tail = bits (drop (k + 1) now) in
-    let p = bits (take k now) in
+    let now = paste old k out n in
+    let m = k + n in
+    let x = word 8 (get_or now m 0) in
+    let lx = length_word 8 (get_or now m 0) in
+    let tail = bits (drop (m + 1) now) in
+    let p = bits (take m now) in
     let d = drop (8 - s) (word 8 last) in
+    let ln : m < length now = omega (arith, length-paste old k out n (omega arith) (omega (arith, lo))) in
+    let w0 = word 8 (get_or old k 0) in
+    let l0 = length_word 8 0 in
+    let f : drop (8 - s) (word 8 first) ≡ take s w0 =
+    ap (drop (8 - s)) (ef ∙ two_parts s (word 8 0) w0 l0 (length_word 8 (get_or old k 0)) (omega arith))
+    ∙ drop_at (drop s (word 8 0)) (take s w0) (8 - s) (omega (arith, length-drop s (word 8 0), l0)) in
+    let a : 8 * k + s ≡ at = omega arith in
+    let front : bits (take k old) ++ drop (8 - s) (word 8 first) ≡ take at (bits old) =
+    ap (λ (u : List Bool). bits (take k old) ++ u) f ∙ sym (bits_up_to old k s (omega arith) (omega arith)) ∙ ap (λ (q : ℕ). take q (bits old)) a in
+    let whole : take n out ≡ out = take_all n out (omega arith) in
+    let p' : p ≡ bits (take k old) ++ bits out =
+    ap bits (take-paste old k out n (omega arith) (omega (arith, lo)) ∙ ap (λ (u : List ℕ). take k old ++ u) whole) ∙ bits_append (take k old) out in
+    let pd : p ++ d ≡ take at (bits old) ++ bits src =
+    ap (λ (u : List Bool). u ++ d) p' ∙ append_assoc (bits (take k old)) (bits out) d ∙ ap (λ (u : List Bool). bits (take k old) ++ u) eo
+    ∙ sym (append_assoc (bits (take k old)) (drop (8 - s) (word 8 first)) (bits src)) ∙ ap (λ (u : List Bool). u ++ bits src) front in
     let r : take (8 - s) (word 8 rest) ≡ drop s x =
-    ap (take (8 - s)) (er ∙ two_parts s x (word 8 0) lx (length_word 8 0) (omega arith))
+    ap (take (8 - s)) (er ∙ two_parts s x (word 8 0) lx l0 (omega arith))
     ∙ take_at (drop s x) (take s (word 8 0)) (8 - s) (omega (arith, length-drop s x, lx)) in
     let ez' : word 8 z ≡ d ++ drop s x =
     ez ∙ two_parts (8 - s) (word 8 last) (word 8 rest) (length_word 8 last) (length_word 8 rest) (omega arith) ∙ ap (λ (u : List Bool). d ++ u) r in
-    let m : 8 * k + s ≡ at + 8 * n = omega arith in
+    let b : 8 * m + s ≡ at + 8 * n = omega arith in
+    let same : drop m now ≡ drop m old = drop-paste old k out n (omega arith) (omega (arith, lo)) in
     let back : drop s x ++ tail ≡ drop (at + 8 * n) (bits old) =
-    sym (drop-append-le s x tail (omega (arith, lx))) ∙ ap (drop s) (sym (bits_from now k h) ∙ bits_drop k now ∙ ap bits w.1 ∙ sym (bits_drop k old))
-    ∙ drop-drop s (8 * k) (bits old) ∙ ap (λ (q : ℕ). drop q (bits old)) m in
-    let all : take n src ≡ src = take_all n src (omega arith) in
-    let on : suc k ≡ k + 1 = omega arith in
-    let cut : set now k z ≡ take k now ++ z ∷ drop (k + 1) now = set_split now k z h ∙ ap (λ (q : ℕ). take k now ++ z ∷ drop q now) on in
-    ap bits cut ∙ bits_append (take k now) (z ∷ drop (k + 1) now) ∙ ap (λ (u : List Bool). p ++ (u ++ tail)) ez'
+    sym (drop-append-le s x tail (omega (arith, lx))) ∙ ap (drop s) (sym (bits_from now m ln) ∙ bits_drop m now ∙ ap bits same ∙ sym (bits_drop m old))
+    ∙ drop-drop s (8 * m) (bits old) ∙ ap (λ (q : ℕ). drop q (bits old)) b in
+    let on : suc m ≡ m + 1 = omega arith in
+    let cut : set now m z ≡ take m now ++ z ∷ drop (m + 1) now = set_split now m z ln ∙ ap (λ (q : ℕ). take m now ++ z ∷ drop q now) on in
+    ap bits cut ∙ bits_append (take m now) (z ∷ drop (m + 1) now) ∙ ap (λ (u : List Bool). p ++ (u ++ tail)) ez'
     ∙ ap (λ (u : List Bool). p ++ u) (append_assoc d (drop s x) tail) ∙ sym (append_assoc p d (drop s x ++ tail))
-    ∙ ap₂ (λ (u v : List Bool). u ++ v) (w.0 ∙ ap (λ (u : List ℕ). take at (bits old) ++ bits u) all) back
+    ∙ ap₂ (λ (u v : List Bool). u ++ v) pd back
     ∙ append_assoc (take at (bits old)) (bits src) (drop (at + 8 * n) (bits old))
     ∙ sym (paste_all (bits old) at (bits src) (8 * n) (sym (length_bits src)))
+
+-- Bytes were filled with the bits from the place on.
+pub got_across :
+    (xs out : List ℕ) (at last : ℕ) → 0 < at % 8 → at / 8 + length out < length xs → ((i : ℕ) → get_or out i 0 < 256)
+    → bits out ++ drop (8 - (8 - at % 8)) (word 8 last)
+    ≡ drop (8 - (8 - at % 8)) (word 8 (get_or xs (at / 8) 0)) ++ bits (take (length out) (drop (at / 8 + 1) xs))
+    → out ≡ octets (length out) (drop at (bits xs))
+got_across xs out at last some h by e =
+    let n = length out in
+    let k = at / 8 in
+    let s = at % 8 in
+    let a = word 8 (get_or xs k 0) in
+    let rest = drop (k + 1) xs in
+    let d = drop (8 - (8 - s)) (word 8 last) in
+    let z : 8 - (8 - s) ≡ s = omega arith in
+    let m : at ≡ 8 * k + s = omega arith in
+    let all : drop at (bits xs) ≡ bits out ++ (d ++ bits (drop n rest)) =
+    ap (λ (q : ℕ). drop q (bits xs)) m ∙ sym (drop-drop s (8 * k) (bits xs)) ∙ ap (drop s) (bits_from xs k (omega arith))
+    ∙ drop-append-le s a (bits rest) (omega (arith, length_word 8 (get_or xs k 0)))
+    ∙ ap₂ (λ (q : ℕ) (u : List Bool). drop q a ++ u) (sym z) (ap bits (sym (take-append-drop n rest)) ∙ bits_append (take n rest) (drop n rest))
+    ∙ sym (append_assoc (drop (8 - (8 - s)) a) (bits (take n rest)) (bits (drop n rest)))
+    ∙ ap (λ (u : List Bool). u ++ bits (drop n rest)) (sym e) ∙ append_assoc (bits out) d (bits (drop n rest)) in
+    sym (ap (octets n) all ∙ octets_front n (bits out) (d ++ bits (drop n rest)) (omega (arith, length_bits out)) ∙ octets_back out by)
 
 -- ---- eight bytes as one number
 

@@ -115,50 +115,74 @@ fn across_eight(last: u8, eight: &[u8; 8], place: usize) -> [u8; 8]
     (kept << (64 - place) | u64::from_be_bytes(*eight) >> place).to_be_bytes()
 }
 
-// Bytes are written from a place on that need not be a byte's start; the other bits stay. Eight bytes go at once.
+// Bytes are filled by the last bits of a byte, as many as `place` says, and on by as many other bytes, eight at once. The
+// answer is the byte whose last bits, again as many, are left.
+#[inline(always)]
+fn fill_across(first: u8, src: &[u8], place: usize, out: &mut [u8]) -> u8
+    requires some { 0 < place }
+    requires few { place < 8 }
+    requires fits { length src.now ≡ length out.old }
+    ensures { bits out.new ++ drop (8 - place) (word 8 result) ≡ drop (8 - place) (word 8 first) ++ bits src.now }
+{
+    let mut last = first;
+    let (eights, rest) = src.as_chunks::<8>();
+    for (k, eight) in eights.iter().enumerate() {
+        out[8 * k..8 * k + 8].copy_from_slice(&across_eight(last, eight, place));
+        last = eight[7];
+    }
+    let done = 8 * eights.len();
+    for (i, b) in rest.iter().enumerate() {
+        out[done + i] = across(last, *b, 8 - place);
+        last = *b;
+    }
+    last
+}
+
+// Bytes are written from a place on that is no byte's start; the other bits stay.
+#[inline(always)]
 pub(crate) fn put_octets(buf: &mut [u8], at: usize, src: &[u8])
-    requires { HasBits buf.old at (8 * length src.now) }
+    requires room { HasBits buf.old at (8 * length src.now) }
+    requires within { 0 < at % 8 }
     ensures { bits buf.new ≡ paste (bits buf.old) at (bits src.now) (8 * length src.now) }
 {
     let start = at / 8;
     let place = at % 8;
-    if place == 0 {
-        buf[start..start + src.len()].copy_from_slice(src);
-        return;
-    }
-    // ends with the bits before the place
-    let mut last = across(0, buf[start], place);
-    let (eights, rest) = src.as_chunks::<8>();
-    for (k, eight) in eights.iter().enumerate() {
-        let from = start + 8 * k;
-        buf[from..from + 8].copy_from_slice(&across_eight(last, eight, place));
-        last = eight[7];
-    }
-    let from = start + 8 * eights.len();
-    for (i, b) in rest.iter().enumerate() {
-        buf[from + i] = across(last, *b, 8 - place);
-        last = *b;
-    }
     let end = start + src.len();
+    // ends with the bits before the place
+    let first = across(0, buf[start], place);
+    let last = fill_across(first, src, place, &mut buf[start..end]);
     // begins with the bits behind
     let behind = across(buf[end], 0, place);
     buf[end] = across(last, behind, 8 - place);
 }
 
-// Bytes are filled by the bits from a place on.
+// Bytes are filled by the bits from a place on that is no byte's start.
+#[inline(always)]
 pub(crate) fn get_octets(buf: &[u8], at: usize, out: &mut [u8])
-    requires { HasBits buf.now at (8 * length out.old) }
+    requires room { HasBits buf.now at (8 * length out.old) }
+    requires within { 0 < at % 8 }
     ensures { out.new ≡ octets (length out.old) (drop at (bits buf.now)) }
 {
-    let start = at / 8;
-    let place = at % 8;
-    if place == 0 {
-        out.copy_from_slice(&buf[start..start + out.len()]);
-        return;
-    }
-    for (i, byte) in out.iter_mut().enumerate() {
-        *byte = across(buf[start + i], buf[start + i + 1], place);
-    }
+    let next = at / 8 + 1;
+    let _last = fill_across(buf[at / 8], &buf[next..next + out.len()], 8 - at % 8, out);
+}
+
+// Bytes are written from a byte's start on; the other bytes stay.
+#[inline(always)]
+pub(crate) fn put_bytes(buf: &mut [u8], start: usize, src: &[u8])
+    requires { start + length src.now ≤ length buf.old }
+    ensures { bits buf.new ≡ paste (bits buf.old) (8 * start) (bits src.now) (8 * length src.now) }
+{
+    buf[start..start + src.len()].copy_from_slice(src);
+}
+
+// Bytes are filled by those from a byte's start on.
+#[inline(always)]
+pub(crate) fn get_bytes(buf: &[u8], start: usize, out: &mut [u8])
+    requires { start + length out.old ≤ length buf.now }
+    ensures { out.new ≡ octets (length out.old) (drop (8 * start) (bits buf.now)) }
+{
+    out.copy_from_slice(&buf[start..start + out.len()]);
 }
 
 // Nothing is done: the contract says that what a slice holds are bytes.

@@ -1,11 +1,11 @@
-ghost use Rattle.std.specs.Prelude.{◌≡◌, ℕ, ◌+◌, ◌*◌, ◌<◌, ◌≤◌, ◌++◌, length};
+ghost use Rattle.std.specs.Prelude.{◌≡◌, ℕ, ◌+◌, ◌*◌, ◌<◌, ◌≤◌, ◌++◌, reverse, length, take};
 ghost use Rattle.std.proofs.Math.Seq.{paste};
 ghost use Rattle.checks.specs.Bits.{word, bits};
-ghost use Rattle.frames.specs.Packet.{Valid, covered, preamble};
-ghost use Rattle.frames.specs.Calls.{width_of, packet_of, Packed};
+ghost use Rattle.frames.specs.Packet.{Valid, control, covered, preamble};
+ghost use Rattle.frames.specs.Calls.{width_of, pid_number, address_bytes, packet_of, Packed};
 
-use crate::bits::{known_bytes, put_bits, put_octets};
-use crate::fields::{Fields, Refusal};
+use crate::bits::{known_bytes, put_bits, put_bytes, put_octets};
+use crate::fields::{Address, AddressWidth, Fields, Refusal};
 use crate::layout::{Layout, check_before};
 use crate::making::known_fields;
 use checks::{Check, bit_at};
@@ -13,7 +13,45 @@ use checks::{Check, bit_at};
 // How many bytes the longest frame fills; clauses say the number.
 const LONGEST: usize = 42;
 
+// Preamble and address are written at the front, the address high byte first. Each caller names its width by a number, for
+// which there is neither a loop nor a call.
+#[inline(always)]
+fn put_front(frame: &mut [u8], held: [u8; 5], width: usize)
+    requires some { 0 < width }
+    requires few { width ≤ 5 }
+    requires room { 6 ≤ length frame.old }
+    ensures { bits frame.new ≡ paste (bits frame.old) 0 (word 8 (preamble (bits (reverse (take width held)))) ++ bits (reverse (take width held))) (8 + 8 * width) }
+{
+    let mut address = held;
+    let high_first = &mut address[0..width];
+    high_first.reverse();
+    let preamble = if bit_at(high_first, 0) { 0xAA } else { 0x55 };
+    put_bits(frame, 0, preamble, 8);
+    put_bytes(frame, 1, high_first);
+}
+
+#[inline(always)]
+fn put_address(frame: &mut [u8], address: &Address)
+    requires { 6 ≤ length frame.old }
+    ensures { bits frame.new ≡ paste (bits frame.old) 0 (word 8 (preamble (bits (reverse (address_bytes address.now)))) ++ bits (reverse (address_bytes address.now))) (8 + 8 * width_of address.now.wide) }
+{
+    match address.wide {
+        AddressWidth::Three => put_front(frame, address.held, 3),
+        AddressWidth::Four => put_front(frame, address.held, 4),
+        AddressWidth::Five => put_front(frame, address.held, 5),
+    }
+}
+
+// The nine control bits as a number.
+fn control_bits(fields: &Fields) -> u16
+    ensures { word 9 result ≡ control fields.now.payload.len (pid_number fields.now.pid) fields.now.no_ack }
+{
+    let len = fields.payload.len as u16;
+    (len << 2 | u16::from(fields.pid.number())) << 1 | u16::from(fields.no_ack)
+}
+
 // All but the check is written at the front; the answer is how many bits that are.
+#[inline(always)]
 fn put_covered(fields: &Fields, frame: &mut [u8]) -> usize
     requires { 42 ≤ length frame.old }
     ensures count { result ≡ 8 + length (covered (packet_of fields.now)) }
@@ -21,17 +59,8 @@ fn put_covered(fields: &Fields, frame: &mut [u8]) -> usize
     ensures bits { bits frame.new ≡ paste (bits frame.old) 0 (word 8 (preamble (covered (packet_of fields.now))) ++ covered (packet_of fields.now)) result }
 {
     let layout = Layout::of(fields);
-    let control = layout.wide.control();
-    let mut address = [0; 5];
-    address.copy_from_slice(&fields.address.held);
-    let high_first = &mut address[0..layout.wide.bytes()];
-    high_first.reverse();
-    let preamble = if bit_at(high_first, 0) { 0xAA } else { 0x55 };
-    put_bits(frame, 0, preamble, 8);
-    put_octets(frame, 8, high_first);
-    put_bits(frame, control, layout.len as u16, 6);
-    put_bits(frame, control + 6, u16::from(fields.pid.number()), 2);
-    put_bits(frame, control + 8, u16::from(fields.no_ack), 1);
+    put_address(frame, &fields.address);
+    put_bits(frame, layout.wide.control(), control_bits(fields), 9);
     put_octets(frame, layout.payload(), fields.payload.bytes());
     layout.check()
 }

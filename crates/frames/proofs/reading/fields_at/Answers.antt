@@ -1,4 +1,4 @@
-use Rattle.std.proofs.Common.{◌≡◌, ℕ, ◌+◌, ◌-◌, ◌*◌, false, List, reverse, length, get_or, take, drop, replicate, refl, ap, ◌∙◌, subst, ap₂, arith}
+use Rattle.std.proofs.Common.{List, ◌≡◌, ℕ, ◌+◌, ◌-◌, ◌*◌, false, length, get_or, take, drop, replicate, refl, ap, ◌∙◌, subst, ap₂, arith}
 use Rattle.std.proofs.lemmas.List.{take_at, length-take-le}
 use Rattle.checks.specs.Bits.{bits}
 use Rattle.frames.specs.Octets.{number, octets}
@@ -14,22 +14,18 @@ returns c =
     let width = width_of c.args.layout.wide in
     let len = c.args.layout.len in
     let control = c.control-control.ensures.value in
-    let zeros : ℕ → List ℕ = λ n. replicate n 0 in
-    let lw : length (take (c.bytes.result - 0) (zeros 5)) ≡ width = length-take-le _ (zeros 5) (omega arith) ∙ omega (arith, c.bytes.ensures.value) in
-    let ll : length (take (len - 0) (zeros 32)) ≡ len = length-take-le (len - 0) (zeros 32) (omega (arith, c.args.layout.fits)) ∙ omega arith in
-    let ea : c.reverse.new.self ≡ reverse (octets width (drop 8 b)) =
-    c.reverse.ensures.after ∙ ap reverse (c.get_octets.ensures ∙ ap (λ (n : ℕ). octets n (drop 8 b)) lw) in
-    let ep : c.get_octets-2.new.out ≡ octets len (drop (8 + 8 * width + 9) b) =
-    c.get_octets-2.ensures ∙ ap₂ (λ (n at : ℕ). octets n (drop at b)) ll c.payload.ensures.value in
+    let zeros : List ℕ = replicate 32 0 in
+    let ll : length (take (len - 0) zeros) ≡ len = length-take-le (len - 0) zeros (omega (arith, c.args.layout.fits)) ∙ omega arith in
+    let ep : c.get_octets.new.out ≡ octets len (drop (8 + 8 * width + 9) b) =
+    c.get_octets.ensures ∙ ap₂ (λ (n at : ℕ). octets n (drop at b)) ll c.payload.ensures.value in
     let pid : pid_number c.unwrap-pid.result ≡ c.get_bits.result =
     subst (PidOrNone c.get_bits.result) c.unwrap-pid.ensures c.try_from.ensures in
-    let lp : length c.get_octets-2.new.out ≡ len = ap length ep ∙ length_octets len (drop (8 + 8 * width + 9) b) in
+    let lp : length c.get_octets.new.out ≡ len = ap length ep ∙ length_octets len (drop (8 + 8 * width + 9) b) in
     record {
       value =
-          same
-          (take_at c.reverse.new.self _ width (omega (arith, lw)) ∙ ea)
+          same c.address_at.ensures
           (pid ∙ c.get_bits.ensures.value ∙ ap (λ (at : ℕ). number (take 2 (drop (at + 6) b))) control)
           (c.bit_at.ensures ∙ ap (λ (at : ℕ). get_or b (at + 8) false) control)
-          (take_at c.get_octets-2.new.out _ len lp ∙ ep);
-      zeros = zeros_behind c.get_octets-2.new.out len (len - 0) _ lp (omega arith) _ refl;
+          (take_at c.get_octets.new.out _ len lp ∙ ep);
+      zeros = zeros_behind c.get_octets.new.out len (len - 0) _ lp (omega arith) _ refl;
     }

@@ -1,26 +1,12 @@
-use Rattle.std.proofs.Common.{◌≡◌, ℕ, ◌+◌, ◌*◌, ◌≤◌, Bool, true, false, cond, eqb, List, length, take, drop, Some, None, sym, refl, ap, ◌∙◌, inl, inr, arith}
-use Rattle.std.specs.Bool.{then_some}
-use Rattle.std.specs.Option.{option_map}
-use Rattle.std.proofs.lemmas.Bool.{cond-true, cond-false, cases_eq, eq-eqb, ne_eqb}
+use Rattle.std.proofs.Common.{◌≡◌, ℕ, ◌+◌, ◌*◌, ◌≤◌, Bool, List, length, take, drop, Some, sym, ap, ◌∙◌, arith}
+use Rattle.std.proofs.lemmas.Bool.{cond-true, cond-false}
 use Rattle.checks.specs.Bits.{bits}
 use Rattle.checks.specs.Places.{length_bits}
 use Rattle.frames.specs.Octets.{number}
 use Rattle.frames.specs.Calls.{width_of}
-use Rattle.frames.specs.declared.layout.Layout.{Layout}
-use Rattle.frames.specs.declared.fields.AddressWidth.{AddressWidth}
-use Rattle.frames.specs.declared.fields.AddressWidth.TheVariants.{Three, Four, Five}
+use Rattle.frames.proofs.Widths.{width_low, width_high}
 use Rattle.frames.proofs.Inside.{long, miscounted, all_counted, said_inside}
 use Rattle.frames.proofs.reading.layout_of.Goals as goal
-
-low : (w : AddressWidth) → 3 ≤ width_of w
-low Three = omega arith
-low Four = omega arith
-low Five = omega arith
-
-high : (w : AddressWidth) → width_of w ≤ 5
-high Three = omega arith
-high Four = omega arith
-high Five = omega arith
 
 -- the length that was read stands after preamble and address
 said : (b : List Bool) (width place bits len : ℕ) → len ≡ bits → bits ≡ number (take 6 (drop place b)) → place ≡ 8 + 8 * width
@@ -35,9 +21,15 @@ returns-then-len-gt-MOST-clause-value c =
     let is = said b width _ _ _ c.from-len.ensures c.get_bits.ensures.value c.control-control.ensures.value in
     sym (cond-false _ _ _ (long b c.args.count le c.args.size width c.from-len.result is (omega arith) (omega arith)))
 
-length_of : (t : Bool) (l : Layout) → option_map (λ (x : Layout). x.len) (then_some t l) ≡ cond t (Some l.len) None
-length_of true l = refl
-length_of false l = refl
+pub returns-then-check-size-clause-value : goal.returns-then-check-size-clause-value
+returns-then-check-size-clause-value c =
+    let b = bits c.args.frame.now in
+    let n = c.args.count in
+    let width = width_of c.args.wide in
+    let len = c.from-len.result in
+    let le : n ≤ length b = omega (arith, length_bits c.args.frame.now) in
+    let is = said b width _ _ _ c.from-len.ensures c.get_bits.ensures.value c.control-control.ensures.value in
+    sym (cond-false _ _ _ (miscounted b n le c.args.size width len is (omega arith) (λ e. c.if-check-size.true (omega (arith, e, c.check.ensures.value)))))
 
 pub returns-clause-value : goal.returns-clause-value
 returns-clause-value c =
@@ -48,14 +40,5 @@ returns-clause-value c =
     let size = c.args.size in
     let le : n ≤ length b = omega (arith, length_bits c.args.frame.now) in
     let is = said b width _ _ _ c.from-len.ensures c.get_bits.ensures.value c.control-control.ensures.value in
-    let end = c.check.result + size in
-    ap (option_map (λ (x : Layout). x.len)) c.then_some.ensures ∙ length_of (eqb end n) _
-    ∙ elim (cases_eq end n) [
-      | inl e ↦
-          cond-true (eqb end n) _ _ (eq-eqb end n e)
-          ∙ sym (cond-true _ _ _ (all_counted b n le size width len is (omega arith) (low c.args.wide) (high c.args.wide) (omega arith) (omega (arith, e, c.check.ensures.value)))
-          ∙ ap Some (sym (said_inside b n le size width len is (omega (arith, e, c.check.ensures.value)))))
-      | inr ne ↦
-          cond-false (eqb end n) _ _ (ne_eqb end n ne)
-          ∙ sym (cond-false _ _ _ (miscounted b n le size width len is (omega arith) (λ e. ne (omega (arith, e, c.check.ensures.value)))))
-    ]
+    sym (cond-true _ _ _ (all_counted b n le size width len is (omega arith) (width_low c.args.wide) (width_high c.args.wide) (omega arith) (omega (arith, c.check.ensures.value)))
+    ∙ ap Some (sym (said_inside b n le size width len is (omega (arith, c.check.ensures.value)))))
