@@ -69,11 +69,6 @@ pub run_append : (w p r : ℕ) (a b : List Bool) → run w p r (a ++ b) ≡ run 
 run_append w p r [] b = refl
 run_append w p r (x ∷ a) b = run_append w p (step w p r x) a b
 
-pub run_more :
-    (w p r : ℕ) (s : List Bool) (i : ℕ) → i < length s
-    → run w p r (take (i + 1) s) ≡ step w p (run w p r (take i s)) (slice_index_or s i false)
-run_more w p r s i h = ap (run w p r) (take_more s i false h) ∙ run_append w p r (take i s) (slice_index_or s i false ∷ [])
-
 -- the first bits, up to a place within byte i
 pub bits_more :
     (bs : List ℕ) (i count : ℕ) → i < length bs → count ≤ 8
@@ -99,14 +94,6 @@ pub run_byte :
     → run w p r (take (8 * i + count) (bits bs)) ≡ run w p (run w p r (take (8 * i) (bits bs))) (take count (word 8 (slice_index bs i)))
 run_byte w p r bs i count h le =
     ap (run w p r) (bits_more bs i count h le) ∙ run_append w p r (take (8 * i) (bits bs)) (take count (word 8 (slice_index bs i)))
-
--- past the end nothing more is taken
-pub take_reached : (bs : List ℕ) (n : ℕ) → take (n - (n - 8 * length bs)) (bits bs) ≡ take n (bits bs)
-take_reached bs n =
-    elim (cases_lt n (8 * length bs)) [
-      | inl l ↦ ap (λ (k : ℕ). take k (bits bs)) (omega arith)
-      | inr l ↦ take_all _ (bits bs) (omega (arith, length_bits bs)) ∙ sym (take_all n (bits bs) (omega (arith, length_bits bs)))
-    ]
 
 pub take_past : (bs : List ℕ) (i n : ℕ) → length bs ≤ i / 8 → i ≤ n → take i (bits bs) ≡ take n (bits bs)
 take_past bs i n h l =
