@@ -81,12 +81,12 @@ fn at_once<P: Parameters>(register: u16, bytes: &[u8]) -> u16
 {
     match bytes {
         [first, second, rest @ ..] => {
+            // the others first: they do not wait for the register
+            let others = from_none::<P>(rest);
             let top = register << (16 - P::WIDTH);
             let high = (top >> 8) as u8;
             let low = (top & 0xFF) as u8;
-            P::entry(high ^ *first, rest.len() + 1)
-                ^ P::entry(low ^ *second, rest.len())
-                ^ from_none::<P>(rest)
+            others ^ P::entry(low ^ *second, rest.len()) ^ P::entry(high ^ *first, rest.len() + 1)
         }
         [only] => steps::<P>(register, *only, 8),
         [] => register,

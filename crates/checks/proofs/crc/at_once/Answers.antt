@@ -1,7 +1,6 @@
 use Rattle.std.proofs.Common.{◌≡◌, ℕ, ◌+◌, ◌-◌, ◌*◌, ◌/◌, ◌%◌, ◌^◌, ◌<◌, ◌≤◌, List, [], ◌∷◌, bit_and, bit_xor, length, take, drop, get_or, refl, sym, subst, ap, ap₂, ◌∙◌, arith}
 use Rattle.std.proofs.lemmas.List.{append-nil, take_all}
-use Rattle.std.proofs.lemmas.Nat.{shl_whole, and_mask}
-use Rattle.std.specs.Int.Bits.{xor_assoc}
+use Rattle.std.proofs.lemmas.Nat.{shl_whole, and_mask, xor_comm}
 use Rattle.checks.specs.Bits.{word, bits}
 use Rattle.checks.specs.Crc.{run}
 use Rattle.checks.specs.Law.{positive, every_below}
@@ -51,10 +50,11 @@ returns-in-len2-up-clause-same g c =
     let bytes : r * 2 ^ (16 - w) ≡ high * 256 + low = sym whole ∙ omega arith in
     let second : b < 256 = omega (arith, (c.type_inv.bytes 1).fits) in
     let one_more : length rest + 1 ≡ length (y ∷ rest) = omega arith in
-    xor_assoc c.entry.result c.entry-in-len2-up.result c.from_none.result
+    let e : ℕ = c.entry-in-len2-up.result in
+    xor_comm (bit_xor c.from_none-others.result c.entry.result) e ∙ ap (bit_xor e) (xor_comm c.from_none-others.result c.entry.result)
     ∙ ap₂ (λ (m n : ℕ). bit_xor m n)
-    (c.entry.ensures ∙ ap (λ (k : ℕ). run w p 0 (word (8 * (k + 1)) (x * 2 ^ (8 * k)))) one_more)
-    (ap₂ (λ (m n : ℕ). bit_xor m n) c.entry-in-len2-up.ensures c.from_none.ensures ∙ sym (byte_first w p y rest))
+    (c.entry-in-len2-up.ensures ∙ ap (λ (k : ℕ). run w p 0 (word (8 * (k + 1)) (x * 2 ^ (8 * k)))) one_more)
+    (ap₂ (λ (m n : ℕ). bit_xor m n) c.entry.ensures c.from_none-others.ensures ∙ sym (byte_first w p y rest))
     ∙ sym (byte_first w p x (y ∷ rest))
     ∙ first_two w p r a b high low rest (positive g.met.P.Parameters.wide) within c.requires.below second (omega arith) bytes
     ∙ ap (λ (s : List ℕ). run w p r (bits s)) (more bs c.in-len2-up.len_at_least)
