@@ -1,16 +1,14 @@
 -- A frame buffer-after down part after part.
-use Rattle.std.proofs.Common.{◌≡◌, ℕ, ◌+◌, ◌-◌, ◌*◌, ◌/◌, ◌%◌, ◌^◌, ◌<◌, ◌≤◌, Bool, true, false, cond, ◌⊎◌, List, [], ◌∷◌, ◌++◌, reverse, length, get_or, take, drop, replicate, sym, refl, ap, ◌∙◌, subst, ap₂, inl, inr, arith, length-append}
+use Rattle.std.proofs.Common.{◌≡◌, ℕ, ◌+◌, ◌-◌, ◌*◌, ◌/◌, ◌<◌, ◌≤◌, Bool, true, false, cond, ◌⊎◌, List, [], ◌∷◌, ◌++◌, reverse, length, get_or, take, drop, replicate, sym, refl, ap, ◌∙◌, subst, ap₂, inl, inr, arith, length-append}
 use Rattle.std.specs.Int.{from_bool}
-use Rattle.std.specs.Int.Bits.{bit_or}
 use lib.Seq.{paste}
 use Rattle.std.proofs.lemmas.List.{append_assoc, length-reverse, get_or_append_left, take_at, drop_at, length-take-le, take-append-le, take-take}
 use Rattle.std.proofs.lemmas.List.Edits.{paste_all}
 use Rattle.checks.specs.Bits.{word, bits}
 use Rattle.checks.specs.Places.{length_word, length_bits}
 use Rattle.frames.specs.Octets.{octets}
-use Rattle.frames.specs.Packet.{Packet, control, covered, preamble, frame_bits, buffer_after}
+use Rattle.frames.specs.Packet.{Packet, covered, preamble, frame_bits, buffer_after}
 use Rattle.frames.proofs.Places.{then_put, bits_append}
-use Rattle.frames.proofs.Words.{joined, below_join, word_join}
 use Rattle.frames.proofs.Octets.{front_octets, bits_octets, length_octets}
 
 word_one : (b : Bool) → word 1 (from_bool b) ≡ b ∷ []
@@ -59,45 +57,36 @@ preamble_from s hs e h =
     (get_or_append_left (bits (reverse s.address)) _ false 0 (omega (arith, length_bits (reverse s.address), ap length e))
     ∙ ap (λ (xs : List ℕ). get_or (bits xs) 0 false) (sym e))
 
--- preamble with address, control and payload one after the other
+-- preamble with address, length with packet identity, and the rest one after the other
 pub put_all :
-    (s : Packet) (pre width v len : ℕ) (d b1 b2 b3 : List Bool)
-    → length s.address ≡ width → length s.payload ≡ len → word 9 v ≡ control (length s.payload) s.pid s.no_ack
+    (s : Packet) (pre width v flag len : ℕ) (d b1 b2 b3 : List Bool)
+    → length s.address ≡ width → length s.payload ≡ len → word 8 v ≡ word 6 (length s.payload) ++ word 2 s.pid → flag ≡ from_bool s.no_ack
     → b1 ≡ paste d 0 (word 8 pre ++ bits (reverse s.address)) (8 + 8 * width)
-    → b2 ≡ paste b1 (8 + 8 * width) (word 9 v) 9
-    → b3 ≡ paste b2 (8 + 8 * width + 9) (bits s.payload) (8 * len)
+    → b2 ≡ paste b1 (8 + 8 * width) (word 8 v) 8
+    → b3 ≡ paste b2 (8 * (2 + width)) (word 1 flag ++ bits s.payload) (1 + 8 * len)
     → b3 ≡ paste d 0 (word 8 pre ++ covered s) (8 + 8 * width + 9 + 8 * len)
 unfolding covered
-put_all s pre width v len d b1 b2 b3 la lp ev f1 f2 f3 =
+put_all s pre width v flag len d b1 b2 b3 la lp ev ef f1 f2 f3 =
     let s1 = word 8 pre in
     let s2 = bits (reverse s.address) in
-    let s3 = word 9 v in
-    let s4 = bits s.payload in
+    let s3 = word 8 v in
+    let s4 = word 1 flag ++ bits s.payload in
+    let l = word 6 (length s.payload) in
+    let i = word 2 s.pid in
+    let p = bits s.payload in
     let n1 : 8 + 8 * width ≡ length (s1 ++ s2) =
     omega (arith, length-append s1 s2, length_word 8 pre, length_bits (reverse s.address), length-reverse s.address) in
-    let l3 = sym (length_word 9 v) in
-    let p2 = then_put d (s1 ++ s2) s3 b1 b2 (8 + 8 * width) 9 n1 l3 f1 f2 in
-    let n2 : 8 + 8 * width + 9 ≡ length (s1 ++ s2 ++ s3) = omega (arith, length-append (s1 ++ s2) s3) in
-    let p3 = then_put d (s1 ++ s2 ++ s3) s4 b2 b3 (8 + 8 * width + 9) (8 * len) n2 (omega (arith, length_bits s.payload)) p2 f3 in
-    p3 ∙ ap (λ (t : List Bool). paste d 0 t (8 + 8 * width + 9 + 8 * len))
-    (append_assoc (s1 ++ s2) s3 s4 ∙ append_assoc s1 s2 (s3 ++ s4) ∙ ap (λ (t : List Bool). s1 ++ (s2 ++ (t ++ s4))) ev)
-
--- the control bits as one number
-pub control_word : (len pid flag : ℕ) (b : Bool) → len < 2 ^ 13 → pid < 2 ^ 2 → flag ≡ from_bool b
-    → word 9 (bit_or (bit_or (len * 2 ^ 2 % 65536) pid * 2 ^ 1 % 65536) flag) ≡ control len pid b
-control_word len pid flag b lt lp e =
-    let lf : flag < 2 ^ 1 = omega (arith, from_bool_below b) in
-    let m = len * 2 ^ 2 + pid in
-    let a1 : bit_or (len * 2 ^ 2 % 65536) pid ≡ m = joined 13 2 len pid lt lp (omega arith) in
-    let a2 : bit_or (bit_or (len * 2 ^ 2 % 65536) pid * 2 ^ 1 % 65536) flag ≡ m * 2 ^ 1 + flag =
-    ap (λ (x : ℕ). bit_or (x * 2 ^ 1 % 65536) flag) a1 ∙ joined 15 1 m flag (below_join 13 2 len pid lt lp) lf (omega arith) in
-    ap (word 9) a2 ∙ word_join 8 1 m flag lf
-    ∙ ap₂ (λ (x y : List Bool). x ++ y) (word_join 6 2 len pid lp) (ap (word 1) e ∙ word_one b)
-    ∙ append_assoc (word 6 len) (word 2 pid) (b ∷ [])
-  where
-    from_bool_below : (b : Bool) → from_bool b < 2
-    from_bool_below true = omega arith
-    from_bool_below false = omega arith
+    let l4 : 1 + 8 * len ≡ length s4 = omega (arith, length-append (word 1 flag) p, length_word 1 flag, length_bits s.payload) in
+    let p2 = then_put d (s1 ++ s2) s3 b1 b2 (8 + 8 * width) 8 n1 (sym (length_word 8 v)) f1 f2 in
+    let n2 : 8 + 8 * width + 8 ≡ length (s1 ++ s2 ++ s3) = omega (arith, length-append (s1 ++ s2) s3, length_word 8 v) in
+    let z : 8 * (2 + width) ≡ 8 + 8 * width + 8 = omega arith in
+    let m : 8 + 8 * width + 8 + (1 + 8 * len) ≡ 8 + 8 * width + 9 + 8 * len = omega arith in
+    let p3 =
+    then_put d (s1 ++ s2 ++ s3) s4 b2 b3 (8 + 8 * width + 8) (1 + 8 * len) n2 l4 p2 (f3 ∙ ap (λ (at : ℕ). paste b2 at s4 (1 + 8 * len)) z) in
+    let e : s3 ++ s4 ≡ (l ++ (i ++ (s.no_ack ∷ []))) ++ p =
+    ap₂ (λ (u w : List Bool). u ++ (w ++ p)) ev (ap (word 1) ef ∙ word_one s.no_ack) ∙ simp append_assoc in
+    p3 ∙ ap₂ (λ (t : List Bool) (n : ℕ). paste d 0 t n)
+    (append_assoc (s1 ++ s2) s3 s4 ∙ append_assoc s1 s2 (s3 ++ s4) ∙ ap (λ (t : List Bool). s1 ++ (s2 ++ t)) e) m
 
 -- what the check covers, in the bits after the preamble
 pub covered_read :

@@ -4,7 +4,7 @@ use Rattle.std.specs.Int.Bits.{bit_and, bit_or}
 use lib.Seq.{paste, take-append-add, drop-append-add}
 use Rattle.std.proofs.lemmas.Nat.{and_mask, or_shifted, shr-shr, shr_high, mod_low, mod_below, pow_pos, pow-add, shl_whole, shr_below}
 use Rattle.std.proofs.lemmas.Nat.Bits.{ones_shr}
-use Rattle.std.proofs.lemmas.List.{append_assoc, append-nil, take_all, take_at, drop_at, take-append-le, drop-append-le, length-take-le, length-drop, drop-drop, drop_more, take_more, take_more_set, set_split, length-take, get_or-take, get_or-drop, get_or_past}
+use Rattle.std.proofs.lemmas.List.{append_assoc, append-nil, take_all, take_at, drop_at, take-append-le, drop-append-le, length-take-le, length-drop, drop-drop, drop_more, take_more, take_more_set, length-take, get_or-take, get_or-drop, get_or_past}
 use Rattle.std.proofs.lemmas.Bool.{cases_lt}
 use Rattle.std.proofs.lemmas.List.Edits.{paste-paste, paste_all}
 use Rattle.std.specs.Int.{w64, byte_at, bytes_high_first, from_be_bytes, to_be_bytes}
@@ -12,7 +12,7 @@ use Rattle.std.specs.Simd.{first_chunks}
 use Rattle.std.proofs.Common.{pow-suc}
 use Rattle.std.proofs.lemmas.Nat.{be_bytes_8}
 use Rattle.std.proofs.lemmas.List.{drop_all}
-use Rattle.std.proofs.lemmas.List.Edits.{take-paste, drop-paste, length-paste}
+use Rattle.std.proofs.lemmas.List.Edits.{take-paste}
 use Rattle.checks.specs.Bits.{word, bits}
 use Rattle.checks.specs.Places.{length_word, length_bits}
 use Rattle.frames.specs.Octets.{number, octets}
@@ -235,141 +235,108 @@ two_parts s a b la lb le =
     let m : 8 ≡ length (drop s a) + s = omega (arith, length-drop s a) in
     ap (take 8) (drop-append-le s a b (omega arith)) ∙ ap (λ (n : ℕ). take n (drop s a ++ b)) m ∙ take-append-add (drop s a) b s
 
--- the bits up to a place within byte k
-bits_up_to : (xs : List ℕ) (k s : ℕ) → k < length xs → s ≤ 8 → take (8 * k + s) (bits xs) ≡ bits (take k xs) ++ take s (word 8 (get_or xs k 0))
-bits_up_to xs k s h le =
-    let w = word 8 (get_or xs k 0) in
-    take-add (8 * k) s (bits xs)
-    ∙ ap₂ (λ (u v : List Bool). u ++ v) (bits_take k xs (omega arith))
-    (ap (take s) (bits_from xs k h) ∙ take-append-le s w (bits (drop (k + 1) xs)) (omega (arith, length_word 8 (get_or xs k 0))))
+-- the last bits of a byte
+low_word : (s v : ℕ) → s ≤ 8 → drop (8 - s) (word 8 v) ≡ word s v
+low_word s v le =
+    let e : 8 - s + s ≡ 8 = omega arith in
+    ap (λ (k : ℕ). drop (8 - s) (word k v)) (sym e) ∙ ap (drop (8 - s)) (word_split (8 - s) s v)
+    ∙ drop_at (word (8 - s) (v / 2 ^ s)) (word s v) (8 - s) (length_word (8 - s) (v / 2 ^ s))
 
 -- What is filled after i of the bytes: the last bits of the byte `last` are left.
-abbrev pub Filled : (before : List Bool) (src : List ℕ) (place : ℕ) (now : List ℕ) (last i : ℕ) → Type 0
-Filled before src place now last i = bits (take i now) ++ drop (8 - place) (word 8 last) ≡ before ++ bits (take i src)
+abbrev pub Filled : (first : ℕ) (src : List ℕ) (place : ℕ) (now : List ℕ) (last i : ℕ) → Type 0
+Filled first src place now last i = bits (take i now) ++ word place last ≡ word place first ++ bits (take i src)
 
-pub filled_none : (src now : List ℕ) (place first : ℕ) → Filled (drop (8 - place) (word 8 first)) src place now first 0
+pub filled_none : (src now : List ℕ) (place first : ℕ) → Filled first src place now first 0
 unfolding bits
-filled_none src now place first = sym (append-nil (drop (8 - place) (word 8 first)))
+filled_none src now place first = sym (append-nil (word place first))
 
 pub filled_one :
-    (before : List Bool) (src now : List ℕ) (place last i b y : ℕ) → i < length src → i < length now → place ≤ 8 → b ≡ get_or src i 0
+    (first : ℕ) (src now : List ℕ) (place last i b y : ℕ) → i < length src → i < length now → place ≤ 8 → b ≡ get_or src i 0
     → word 8 y ≡ take 8 (drop (8 - place) (word 8 last ++ word 8 b))
-    → Filled before src place now last i → Filled before src place (set now i y) b (i + 1)
-filled_one before src now place last i b y hs hn le eb e w =
+    → Filled first src place now last i → Filled first src place (set now i y) b (i + 1)
+filled_one first src now place last i b y hs hn le eb e w =
     let s = 8 - place in
     let p = bits (take i now) in
     let a = word 8 b in
-    let ey : word 8 y ≡ drop s (word 8 last) ++ take s a = e ∙ two_parts s (word 8 last) a (length_word 8 last) (length_word 8 b) (omega arith) in
-    let one : bits (take (i + 1) (set now i y)) ≡ p ++ (drop s (word 8 last) ++ take s a) =
+    let d = word place last in
+    let ey : word 8 y ≡ d ++ take s a =
+    e ∙ two_parts s (word 8 last) a (length_word 8 last) (length_word 8 b) (omega arith)
+    ∙ ap (λ (u : List Bool). u ++ take s a) (low_word place last le) in
+    let one : bits (take (i + 1) (set now i y)) ≡ p ++ (d ++ take s a) =
     ap bits (take_more_set now i y hn) ∙ bits_append (take i now) (y ∷ []) ∙ ap (λ (u : List Bool). p ++ u) (bits_one y ∙ ey) in
     let src' : bits (take (i + 1) src) ≡ bits (take i src) ++ a =
     ap bits (take_more src i 0 hs ∙ ap (λ (x : ℕ). take i src ++ x ∷ []) (sym eb)) ∙ bits_append (take i src) (b ∷ [])
     ∙ ap (λ (u : List Bool). bits (take i src) ++ u) (bits_one b) in
-    ap (λ (u : List Bool). u ++ drop s a) (one ∙ sym (append_assoc p (drop s (word 8 last)) (take s a)))
-    ∙ append_assoc (p ++ drop s (word 8 last)) (take s a) (drop s a)
+    ap₂ (λ (u v : List Bool). u ++ v) (one ∙ sym (append_assoc p d (take s a))) (sym (low_word place b le))
+    ∙ append_assoc (p ++ d) (take s a) (drop s a)
     ∙ ap₂ (λ (u v : List Bool). u ++ v) w (take-append-drop s a)
-    ∙ append_assoc before (bits (take i src)) a ∙ ap (λ (u : List Bool). before ++ u) (sym src')
+    ∙ append_assoc (word place first) (bits (take i src)) a ∙ ap (λ (u : List Bool). word place first ++ u) (sym src')
 
 -- eight bytes at once
 pub filled_eight :
-    (before : List Bool) (src now : List ℕ) (place last i : ℕ) (ys eight : List ℕ) → i + 8 ≤ length src → i + 8 ≤ length now → place ≤ 8
-    → eight ≡ take 8 (drop i src) → length ys ≡ 8 → bits ys ≡ drop (8 - place) (word 8 last) ++ take (64 - place) (bits eight)
-    → Filled before src place now last i → Filled before src place (paste now i ys 8) (get_or eight 7 0) (i + 8)
+    (first : ℕ) (src now : List ℕ) (place last i : ℕ) (ys eight : List ℕ) → i + 8 ≤ length src → i + 8 ≤ length now → place ≤ 8
+    → eight ≡ take 8 (drop i src) → length ys ≡ 8 → bits ys ≡ word place last ++ take (64 - place) (bits eight)
+    → Filled first src place now last i → Filled first src place (paste now i ys 8) (get_or eight 7 0) (i + 8)
 unfolding bits
-filled_eight before src now place last i ys eight hs hn small ee ly ey w =
-    let s = place in
+filled_eight first src now s last i ys eight hs hn small ee ly ey w =
     let p = bits (take i now) in
-    let d = drop (8 - s) (word 8 last) in
+    let d = word s last in
     let b = bits eight in
-    let x = word 8 (get_or eight 7 0) in
+    let z = get_or eight 7 0 in
     let le : length eight ≡ 8 = ap length ee ∙ length-take-le 8 (drop i src) (omega (arith, length-drop i src)) in
     let q : 64 - s ≡ 56 + (8 - s) = omega arith in
-    let tail : drop (64 - s) b ≡ drop (8 - s) x =
+    let tail : drop (64 - s) b ≡ word s z =
     ap (λ (m : ℕ). drop m b) q ∙ sym (drop-drop (8 - s) 56 b)
-    ∙ ap (drop (8 - s)) (bits_from eight 7 (omega (arith, le)) ∙ ap (λ (zs : List ℕ). x ++ bits zs) (drop_all 8 eight (omega (arith, le))) ∙ append-nil x) in
+    ∙ ap (drop (8 - s)) (bits_from eight 7 (omega (arith, le)) ∙ ap (λ (zs : List ℕ). word 8 z ++ bits zs) (drop_all 8 eight (omega (arith, le))) ∙ append-nil (word 8 z))
+    ∙ low_word s z small in
     let one : bits (take (i + 8) (paste now i ys 8)) ≡ p ++ (d ++ take (64 - s) b) =
     ap bits (take-paste now i ys 8 (omega arith) (omega (arith, ly))) ∙ bits_append (take i now) (take 8 ys)
     ∙ ap (λ (u : List Bool). p ++ u) (ap bits (take_all 8 ys (omega (arith, ly))) ∙ ey) in
     let src' : bits (take (i + 8) src) ≡ bits (take i src) ++ b =
     ap bits (take-add i 8 src) ∙ bits_append (take i src) (take 8 (drop i src)) ∙ ap (λ (zs : List ℕ). bits (take i src) ++ bits zs) (sym ee) in
-    ap (λ (u : List Bool). u ++ drop (8 - s) x) (one ∙ sym (append_assoc p d (take (64 - s) b)))
-    ∙ append_assoc (p ++ d) (take (64 - s) b) (drop (8 - s) x)
+    ap (λ (u : List Bool). u ++ word s z) (one ∙ sym (append_assoc p d (take (64 - s) b)))
+    ∙ append_assoc (p ++ d) (take (64 - s) b) (word s z)
     ∙ ap₂ (λ (u v : List Bool). u ++ v) w (ap (λ (u : List Bool). take (64 - s) b ++ u) (sym tail) ∙ take-append-drop (64 - s) b)
-    ∙ append_assoc before (bits (take i src)) b ∙ ap (λ (u : List Bool). before ++ u) (sym src')
+    ∙ append_assoc (word s first) (bits (take i src)) b ∙ ap (λ (u : List Bool). word s first ++ u) (sym src')
 
--- Bytes were filled with the bits before the place and with others; what is left of these and the bits behind make the last byte.
-pub put_across :
-    (old : List ℕ) (at : ℕ) (src out : List ℕ) (first last rest z : ℕ) → at / 8 + length src < length old → length out ≡ length src
-    → word 8 first ≡ take 8 (drop (at % 8) (word 8 0 ++ word 8 (get_or old (at / 8) 0)))
-    → bits out ++ drop (8 - at % 8) (word 8 last) ≡ drop (8 - at % 8) (word 8 first) ++ bits src
-    → word 8 rest ≡ take 8 (drop (at % 8) (word 8 (get_or (paste old (at / 8) out (length src)) (at / 8 + length src) 0) ++ word 8 0))
-    → word 8 z ≡ take 8 (drop (8 - at % 8) (word 8 last ++ word 8 rest))
-    → bits (set (paste old (at / 8) out (length src)) (at / 8 + length src) z) ≡ paste (bits old) at (bits src) (8 * length src)
-unfolding bits
-put_across old at src out first last rest z h lo ef eo er ez =
+-- Bytes were filled by the last bits of a byte and by others, and what is left of these is written behind.
+pub put_left :
+    (old : List ℕ) (start place first last : ℕ) (src out : List ℕ) (next : List Bool) → start + length src ≤ length old → length out ≡ length src
+    → bits out ++ word place last ≡ word place first ++ bits src
+    → next ≡ paste (bits (paste old start out (length src))) (8 * (start + length src)) (word place last) place
+    → next ≡ paste (bits old) (8 * start) (word place first ++ bits src) (place + 8 * length src)
+put_left old start place first last src out next h lo e f =
     let n = length src in
-    let k = at / 8 in
-    let s = at % 8 in
-    let now = paste old k out n in
-    let m = k + n in
-    let x = word 8 (get_or now m 0) in
-    let lx = length_word 8 (get_or now m 0) in
-    let tail = bits (drop (m + 1) now) in
-    let p = bits (take m now) in
-    let d = drop (8 - s) (word 8 last) in
-    let ln : m < length now = omega (arith, length-paste old k out n (omega arith) (omega (arith, lo))) in
-    let w0 = word 8 (get_or old k 0) in
-    let l0 = length_word 8 0 in
-    let f : drop (8 - s) (word 8 first) ≡ take s w0 =
-    ap (drop (8 - s)) (ef ∙ two_parts s (word 8 0) w0 l0 (length_word 8 (get_or old k 0)) (omega arith))
-    ∙ drop_at (drop s (word 8 0)) (take s w0) (8 - s) (omega (arith, length-drop s (word 8 0), l0)) in
-    let a : 8 * k + s ≡ at = omega arith in
-    let front : bits (take k old) ++ drop (8 - s) (word 8 first) ≡ take at (bits old) =
-    ap (λ (u : List Bool). bits (take k old) ++ u) f ∙ sym (bits_up_to old k s (omega arith) (omega arith)) ∙ ap (λ (q : ℕ). take q (bits old)) a in
-    let whole : take n out ≡ out = take_all n out (omega arith) in
-    let p' : p ≡ bits (take k old) ++ bits out =
-    ap bits (take-paste old k out n (omega arith) (omega (arith, lo)) ∙ ap (λ (u : List ℕ). take k old ++ u) whole) ∙ bits_append (take k old) out in
-    let pd : p ++ d ≡ take at (bits old) ++ bits src =
-    ap (λ (u : List Bool). u ++ d) p' ∙ append_assoc (bits (take k old)) (bits out) d ∙ ap (λ (u : List Bool). bits (take k old) ++ u) eo
-    ∙ sym (append_assoc (bits (take k old)) (drop (8 - s) (word 8 first)) (bits src)) ∙ ap (λ (u : List Bool). u ++ bits src) front in
-    let r : take (8 - s) (word 8 rest) ≡ drop s x =
-    ap (take (8 - s)) (er ∙ two_parts s x (word 8 0) lx l0 (omega arith))
-    ∙ take_at (drop s x) (take s (word 8 0)) (8 - s) (omega (arith, length-drop s x, lx)) in
-    let ez' : word 8 z ≡ d ++ drop s x =
-    ez ∙ two_parts (8 - s) (word 8 last) (word 8 rest) (length_word 8 last) (length_word 8 rest) (omega arith) ∙ ap (λ (u : List Bool). d ++ u) r in
-    let b : 8 * m + s ≡ at + 8 * n = omega arith in
-    let same : drop m now ≡ drop m old = drop-paste old k out n (omega arith) (omega (arith, lo)) in
-    let back : drop s x ++ tail ≡ drop (at + 8 * n) (bits old) =
-    sym (drop-append-le s x tail (omega (arith, lx))) ∙ ap (drop s) (sym (bits_from now m ln) ∙ bits_drop m now ∙ ap bits same ∙ sym (bits_drop m old))
-    ∙ drop-drop s (8 * m) (bits old) ∙ ap (λ (q : ℕ). drop q (bits old)) b in
-    let on : suc m ≡ m + 1 = omega arith in
-    let cut : set now m z ≡ take m now ++ z ∷ drop (m + 1) now = set_split now m z ln ∙ ap (λ (q : ℕ). take m now ++ z ∷ drop q now) on in
-    ap bits cut ∙ bits_append (take m now) (z ∷ drop (m + 1) now) ∙ ap (λ (u : List Bool). p ++ (u ++ tail)) ez'
-    ∙ ap (λ (u : List Bool). p ++ u) (append_assoc d (drop s x) tail) ∙ sym (append_assoc p d (drop s x ++ tail))
-    ∙ ap₂ (λ (u v : List Bool). u ++ v) pd back
-    ∙ append_assoc (take at (bits old)) (bits src) (drop (at + 8 * n) (bits old))
-    ∙ sym (paste_all (bits old) at (bits src) (8 * n) (sym (length_bits src)))
+    let k = 8 * start in
+    let d = bits old in
+    let z : 8 * (start + n) ≡ k + 8 * n = omega arith in
+    let m : 8 * n + place ≡ place + 8 * n = omega arith in
+    let now : bits (paste old start out n) ≡ paste d k (bits out) (8 * n) =
+    subst (λ (q : ℕ). bits (paste old start out q) ≡ paste d k (bits out) (8 * q)) lo (put_copied old out start (omega arith)) in
+    f ∙ ap₂ (λ (b : List Bool) (at : ℕ). paste b at (word place last) place) now z
+    ∙ paste-paste d k (bits out) (word place last) (8 * n) place (omega (arith, length_bits out, lo)) (sym (length_word place last)) (omega (arith, length_bits old))
+    ∙ ap₂ (λ (t : List Bool) (q : ℕ). paste d k t q) e m
 
 -- Bytes were filled with the bits from the place on.
 pub got_across :
-    (xs out : List ℕ) (at last : ℕ) → 0 < at % 8 → at / 8 + length out < length xs → ((i : ℕ) → get_or out i 0 < 256)
-    → bits out ++ drop (8 - (8 - at % 8)) (word 8 last)
-    ≡ drop (8 - (8 - at % 8)) (word 8 (get_or xs (at / 8) 0)) ++ bits (take (length out) (drop (at / 8 + 1) xs))
+    (xs out : List ℕ) (at last : ℕ) → at / 8 + length out < length xs → ((i : ℕ) → get_or out i 0 < 256)
+    → bits out ++ word (8 - at % 8) last ≡ word (8 - at % 8) (get_or xs (at / 8) 0) ++ bits (take (length out) (drop (at / 8 + 1) xs))
     → out ≡ octets (length out) (drop at (bits xs))
-got_across xs out at last some h by e =
+got_across xs out at last h by e =
     let n = length out in
     let k = at / 8 in
     let s = at % 8 in
-    let a = word 8 (get_or xs k 0) in
+    let x = get_or xs k 0 in
     let rest = drop (k + 1) xs in
-    let d = drop (8 - (8 - s)) (word 8 last) in
-    let z : 8 - (8 - s) ≡ s = omega arith in
+    let d = word (8 - s) last in
+    let z : s ≡ 8 - (8 - s) = omega arith in
     let m : at ≡ 8 * k + s = omega arith in
     let all : drop at (bits xs) ≡ bits out ++ (d ++ bits (drop n rest)) =
     ap (λ (q : ℕ). drop q (bits xs)) m ∙ sym (drop-drop s (8 * k) (bits xs)) ∙ ap (drop s) (bits_from xs k (omega arith))
-    ∙ drop-append-le s a (bits rest) (omega (arith, length_word 8 (get_or xs k 0)))
-    ∙ ap₂ (λ (q : ℕ) (u : List Bool). drop q a ++ u) (sym z) (ap bits (sym (take-append-drop n rest)) ∙ bits_append (take n rest) (drop n rest))
-    ∙ sym (append_assoc (drop (8 - (8 - s)) a) (bits (take n rest)) (bits (drop n rest)))
+    ∙ drop-append-le s (word 8 x) (bits rest) (omega (arith, length_word 8 x))
+    ∙ ap₂ (λ (u v : List Bool). u ++ v) (ap (λ (q : ℕ). drop q (word 8 x)) z ∙ low_word (8 - s) x (omega arith))
+    (ap bits (sym (take-append-drop n rest)) ∙ bits_append (take n rest) (drop n rest))
+    ∙ sym (append_assoc (word (8 - s) x) (bits (take n rest)) (bits (drop n rest)))
     ∙ ap (λ (u : List Bool). u ++ bits (drop n rest)) (sym e) ∙ append_assoc (bits out) d (bits (drop n rest)) in
     sym (ap (octets n) all ∙ octets_front n (bits out) (d ++ bits (drop n rest)) (omega (arith, length_bits out)) ∙ octets_back out by)
 
@@ -395,27 +362,23 @@ bytes_bits (suc k) n =
 pub across_eight_right :
     (last s number : ℕ) (eight : List ℕ) → s < 8 → number < 2 ^ 64 → length eight ≡ 8 → ((i : ℕ) → get_or eight i 0 < 256) → number ≡ from_be_bytes w64 eight
     → bits (to_be_bytes w64 (bit_or (bit_and last (255 / 2 ^ (8 - s)) * 2 ^ (64 - s) % 18446744073709551616) (number / 2 ^ s)))
-    ≡ drop (8 - s) (word 8 last) ++ take (64 - s) (bits eight)
+    ≡ word s last ++ take (64 - s) (bits eight)
 across_eight_right last s number eight h8 hn le by e =
     let r = last % 2 ^ s in
     let t = 64 - s in
     let u : s + t ≡ 64 = omega arith in
     let v : t + s ≡ 64 = omega arith in
-    let w8 : 8 - s + s ≡ 8 = omega arith in
     let lr = mod_below last (2 ^ s) (pow_pos s) in
     let ln : number / 2 ^ s < 2 ^ t = shr_below number t s (subst (λ (k : ℕ). number < 2 ^ k) (sym v) hn) in
     let m = r * 2 ^ t + number / 2 ^ s in
     let o : bit_or (bit_and last (255 / 2 ^ (8 - s)) * 2 ^ t % 18446744073709551616) (number / 2 ^ s) ≡ m =
     ap (λ (x : ℕ). bit_or (x * 2 ^ t % 18446744073709551616) (number / 2 ^ s)) (ones last s (omega arith))
     ∙ ap (λ (x : ℕ). bit_or x (number / 2 ^ s)) (shl_whole r s t 64 lr (omega arith)) ∙ or_shifted r t (number / 2 ^ s) ln in
-    let d : drop (8 - s) (word 8 last) ≡ word s last =
-    ap (λ (k : ℕ). drop (8 - s) (word k last)) (sym w8) ∙ ap (drop (8 - s)) (word_split (8 - s) s last)
-    ∙ drop_at (word (8 - s) (last / 2 ^ s)) (word s last) (8 - s) (length_word (8 - s) (last / 2 ^ s)) in
     let f : take t (bits eight) ≡ word t (number / 2 ^ s) =
     ap (take t) (ap bits (sym (be_bytes_8 eight number le by e)) ∙ bytes_bits 8 number ∙ ap (λ (k : ℕ). word k number) (sym v) ∙ word_split t s number)
     ∙ take_at (word t (number / 2 ^ s)) (word s number) t (length_word t (number / 2 ^ s)) in
     ap (λ (x : ℕ). bits (to_be_bytes w64 x)) o ∙ bytes_bits 8 m ∙ ap (λ (k : ℕ). word k m) (sym u) ∙ word_join s t r (number / 2 ^ s) ln
-    ∙ ap₂ (λ (x y : List Bool). x ++ y) (word_mod s last ∙ sym d) (sym f)
+    ∙ ap₂ (λ (x y : List Bool). x ++ y) (word_mod s last) (sym f)
 
 -- a chunk of eight
 pub chunk_at : (k : ℕ) (xs : List ℕ) (i : ℕ) → i < k → get_or (first_chunks 8 k xs) i [] ≡ take 8 (drop (8 * i) xs)

@@ -109,7 +109,7 @@ fn across(first: u8, next: u8, place: usize) -> u8
 fn across_eight(last: u8, eight: &[u8; 8], place: usize) -> [u8; 8]
     requires some { 0 < place }
     requires few { place < 8 }
-    ensures { bits result ≡ drop (8 - place) (word 8 last) ++ take (64 - place) (bits eight.now) }
+    ensures { bits result ≡ word place last ++ take (64 - place) (bits eight.now) }
 {
     let kept = (last & 0xFF >> (8 - place)) as u64;
     (kept << (64 - place) | u64::from_be_bytes(*eight) >> place).to_be_bytes()
@@ -122,7 +122,7 @@ fn fill_across(first: u8, src: &[u8], place: usize, out: &mut [u8]) -> u8
     requires some { 0 < place }
     requires few { place < 8 }
     requires fits { length src.now ≡ length out.old }
-    ensures { bits out.new ++ drop (8 - place) (word 8 result) ≡ drop (8 - place) (word 8 first) ++ bits src.now }
+    ensures { bits out.new ++ word place result ≡ word place first ++ bits src.now }
 {
     let mut last = first;
     let (eights, rest) = src.as_chunks::<8>();
@@ -138,22 +138,17 @@ fn fill_across(first: u8, src: &[u8], place: usize, out: &mut [u8]) -> u8
     last
 }
 
-// Bytes are written from a place on that is no byte's start; the other bits stay.
+// The last bits of a byte, as many as `place` says, and then other bytes are written from a byte's start on; the other bits stay.
 #[inline(always)]
-pub(crate) fn put_octets(buf: &mut [u8], at: usize, src: &[u8])
-    requires room { HasBits buf.old at (8 * length src.now) }
-    requires within { 0 < at % 8 }
-    ensures { bits buf.new ≡ paste (bits buf.old) at (bits src.now) (8 * length src.now) }
+pub(crate) fn put_behind(buf: &mut [u8], start: usize, first: u8, place: usize, src: &[u8])
+    requires some { 0 < place }
+    requires few { place < 8 }
+    requires room { HasBits buf.old (8 * start) (place + 8 * length src.now) }
+    ensures { bits buf.new ≡ paste (bits buf.old) (8 * start) (word place first ++ bits src.now) (place + 8 * length src.now) }
 {
-    let start = at / 8;
-    let place = at % 8;
     let end = start + src.len();
-    // ends with the bits before the place
-    let first = across(0, buf[start], place);
     let last = fill_across(first, src, place, &mut buf[start..end]);
-    // begins with the bits behind
-    let behind = across(buf[end], 0, place);
-    buf[end] = across(last, behind, 8 - place);
+    put_within(buf, 8 * end, u16::from(last), place);
 }
 
 // Bytes are filled by the bits from a place on that is no byte's start.

@@ -1,10 +1,10 @@
 ghost use Rattle.std.specs.Prelude.{◌≡◌, ℕ, ◌+◌, ◌*◌, ◌<◌, ◌≤◌, ◌++◌, reverse, length, take};
 ghost use Rattle.std.proofs.Math.Seq.{paste};
 ghost use Rattle.checks.specs.Bits.{word, bits};
-ghost use Rattle.frames.specs.Packet.{Valid, control, covered, preamble};
+ghost use Rattle.frames.specs.Packet.{Valid, covered, preamble};
 ghost use Rattle.frames.specs.Calls.{width_of, pid_number, address_bytes, packet_of, Packed};
 
-use crate::bits::{known_bytes, put_bits, put_bytes, put_octets};
+use crate::bits::{known_bytes, put_behind, put_bits, put_bytes};
 use crate::fields::{Address, AddressWidth, Fields, Refusal};
 use crate::layout::{Layout, check_before};
 use crate::making::known_fields;
@@ -42,12 +42,11 @@ fn put_address(frame: &mut [u8], address: &Address)
     }
 }
 
-// The nine control bits as a number.
-fn control_bits(fields: &Fields) -> u16
-    ensures { word 9 result ≡ control fields.now.payload.len (pid_number fields.now.pid) fields.now.no_ack }
+// Length and packet identity as a byte.
+fn length_and_pid(fields: &Fields) -> u16
+    ensures { word 8 result ≡ word 6 fields.now.payload.len ++ word 2 (pid_number fields.now.pid) }
 {
-    let len = fields.payload.len as u16;
-    (len << 2 | u16::from(fields.pid.number())) << 1 | u16::from(fields.no_ack)
+    (fields.payload.len as u16) << 2 | u16::from(fields.pid.number())
 }
 
 // All but the check is written at the front; the answer is how many bits that are.
@@ -60,8 +59,16 @@ fn put_covered(fields: &Fields, frame: &mut [u8]) -> usize
 {
     let layout = Layout::of(fields);
     put_address(frame, &fields.address);
-    put_bits(frame, layout.wide.control(), control_bits(fields), 9);
-    put_octets(frame, layout.payload(), fields.payload.bytes());
+    put_bits(frame, layout.wide.control(), length_and_pid(fields), 8);
+    // from here on each byte stands one bit off a byte's start
+    let behind = 2 + layout.wide.bytes();
+    put_behind(
+        frame,
+        behind,
+        u8::from(fields.no_ack),
+        1,
+        fields.payload.bytes(),
+    );
     layout.check()
 }
 

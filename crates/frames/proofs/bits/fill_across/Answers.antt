@@ -12,7 +12,7 @@ loop-k-init c = filled_none c.args.src.now c.args.out.now c.args.place c.args.fi
 pub loop-k-preserved : goal.loop-k-preserved
 loop-k-preserved c =
     let place = c.args.place in
-    let before = drop (8 - place) (word 8 c.args.first) in
+    let first = c.args.first in
     let src = c.args.src.now in
     let now = c.loop-k.out in
     let k = c.loop-k.k in
@@ -23,15 +23,15 @@ loop-k-preserved c =
     let ce : eight ≡ take 8 (drop (8 * k) src) =
     ap (λ (xs : List (List ℕ)). get_or xs k []) c.as_chunks.ensures.front ∙ chunk_at (length src / 8) src k few in
     let ly : length ys ≡ 8 = omega arith in
-    subst (λ (b : List ℕ). Filled before src place b (get_or eight 7 0) (8 * (k + 1)))
+    subst (λ (b : List ℕ). Filled first src place b (get_or eight 7 0) (8 * (k + 1)))
     (sym (put_mid-paste (8 * k) (8 * k + 8 - 8 * k) now c.copy_from_slice.new.self ys 8 c.copy_from_slice.ensures.after (omega arith) (sym ly)))
-    (subst (λ (m : ℕ). Filled before src place (paste now (8 * k) ys 8) (get_or eight 7 0) m) e
-    (filled_eight before src now place c.loop-k.last (8 * k) ys eight (omega (arith, few)) (omega (arith, few)) (omega arith) ce ly c.across_eight.ensures c.loop-k.invariant))
+    (subst (λ (m : ℕ). Filled first src place (paste now (8 * k) ys 8) (get_or eight 7 0) m) e
+    (filled_eight first src now place c.loop-k.last (8 * k) ys eight (omega (arith, few)) (omega (arith, few)) (omega arith) ce ly c.across_eight.ensures c.loop-k.invariant))
 
 pub loop-i-preserved : goal.loop-i-preserved
 loop-i-preserved c =
     let place = c.args.place in
-    let before = drop (8 - place) (word 8 c.args.first) in
+    let first = c.args.first in
     let src = c.args.src.now in
     let i = c.loop-i.i in
     let j = 8 * (length src / 8) + i in
@@ -42,18 +42,18 @@ loop-i-preserved c =
     let n : j + 1 ≡ 8 * (length src / 8) + (i + 1) = omega arith in
     let eb : b ≡ get_or src j 0 =
     ap (λ (xs : List ℕ). get_or xs i 0) c.as_chunks.ensures.back ∙ get_or-drop (length src / 8 * 8) src i 0 ∙ ap (λ (m : ℕ). get_or src m 0) z in
-    subst (λ (k : ℕ). Filled before src place (set c.loop-i.out k y) b (8 * (length src / 8) + (i + 1))) e
-    (subst (λ (m : ℕ). Filled before src place (set c.loop-i.out j y) b m) n
-    (filled_one before src c.loop-i.out place c.loop-i.last j b y (omega (arith, c.as_chunks.ensures.back_len)) (omega (arith, c.as_chunks.ensures.back_len)) (omega arith) eb c.across.ensures c.loop-i.invariant))
+    subst (λ (k : ℕ). Filled first src place (set c.loop-i.out k y) b (8 * (length src / 8) + (i + 1))) e
+    (subst (λ (m : ℕ). Filled first src place (set c.loop-i.out j y) b m) n
+    (filled_one first src c.loop-i.out place c.loop-i.last j b y (omega (arith, c.as_chunks.ensures.back_len)) (omega (arith, c.as_chunks.ensures.back_len)) (omega arith) eb c.across.ensures c.loop-i.invariant))
 
 pub returns : goal.returns
 returns c =
     let place = c.args.place in
-    let before = drop (8 - place) (word 8 c.args.first) in
+    let first = c.args.first in
     let src = c.args.src.now in
     let out = c.loop-i.out in
     let e : 8 * (length src / 8) + c.loop-i.i ≡ length src = omega (arith, c.as_chunks.ensures.back_len) in
     let all : (xs : List ℕ) → length xs ≡ length src → take (length src) xs ≡ xs = λ xs l. take_all (length src) xs (omega (arith, l)) in
-    let f = subst (Filled before src place out c.loop-i.last) e c.loop-i.invariant in
-    ap (λ (u : List ℕ). bits u ++ drop (8 - place) (word 8 c.loop-i.last)) (sym (all out (omega arith))) ∙ f
-    ∙ ap (λ (u : List ℕ). before ++ bits u) (all src refl)
+    let f = subst (Filled first src place out c.loop-i.last) e c.loop-i.invariant in
+    ap (λ (u : List ℕ). bits u ++ word place c.loop-i.last) (sym (all out (omega arith))) ∙ f
+    ∙ ap (λ (u : List ℕ). word place first ++ bits u) (all src refl)
