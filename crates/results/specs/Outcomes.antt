@@ -11,6 +11,8 @@ use Rattle.results.specs.declared.carrying.Answer.TheVariants as answer
 use Rattle.requests.specs.declared.lines.Lack.{Lack}
 use Rattle.requests.specs.declared.lines.Cannot.{Cannot}
 use Rattle.requests.specs.declared.lines.Cannot.TheVariants.{Unit as Unable}
+use Rattle.requests.specs.declared.lines.Stop.{Stop}
+use Rattle.requests.specs.declared.lines.Stop.TheVariants.{Cannot as Told, Memory}
 use Rattle.requests.specs.Lines.{Request, kind, pack, read, field, unit, call, make, carry}
 use Rattle.commands.specs.declared.refusal.Refusal.{Refusal}
 use Rattle.profile.specs.Profile.{if_sound, field_of}
@@ -118,3 +120,9 @@ Kept (Ok (refused n)) before after = after ≡ before
 Kept (Ok (looked_up bytes)) before after = after ≡ before
 Kept (Ok absent) before after = after ≡ before
 Kept (Ok (said s)) before after = KeptUnlessDone (Ok s) before after
+
+-- what is said where there was no memory
+abbrev pub IfUnsettled : {X : Type 0} → Result X Stop → Type 0 → Type 0
+IfUnsettled (Ok v) p = Unit {0}
+IfUnsettled (Err (Told e)) p = Unit {0}
+IfUnsettled (Err Memory) p = p

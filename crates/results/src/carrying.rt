@@ -1,9 +1,9 @@
 // Lines carried out.
 ghost use Rattle.std.specs.Prelude.{◌≡◌};
 ghost use Rattle.frames.specs.Calls.{width_of, packet_of, Packed, Reads};
-ghost use Rattle.requests.specs.Lines.{asked, Gives};
+ghost use Rattle.requests.specs.Lines.{asked, make, Gives};
 ghost use Rattle.desk.specs.Making.{IfSettled};
-ghost use Rattle.results.specs.Outcomes.{check_width, check_meaning, outcome_of, pack_outcome, read_outcome, field_outcome, carried, units_after_request, Kept};
+ghost use Rattle.results.specs.Outcomes.{check_width, check_meaning, outcome_of, pack_outcome, read_outcome, field_outcome, carried, units_after_request, Kept, IfUnsettled};
 
 use checks::{Crc8, Crc16};
 use desk::{Frame, UnitResult, Units};
@@ -68,6 +68,7 @@ fn packed<'a>(kind: Kind, fields: &Fields) -> Answer<'a>
 fn done_with<'a>(units: &mut Units, heap: Global, line: &'a Line) -> Result<Answer<'a>, Stop>
     ensures answer { Gives outcome_of result (carried units.old (asked line.now)) }
     ensures units { IfSettled result (units.new ≡ units_after_request units.old (asked line.now)) }
+    ensures memory { IfUnsettled result (asked line.now ≡ make) }
 {
     match line {
         Line::Kind(kind) => {
@@ -115,6 +116,7 @@ fn done_with<'a>(units: &mut Units, heap: Global, line: &'a Line) -> Result<Answ
 pub fn carry_out<'a>(units: &mut Units, heap: Global, line: &'a Line) -> Result<Answer<'a>, Stop>
     ensures answer { Gives outcome_of result (carried units.old (asked line.now)) }
     ensures units { IfSettled result (units.new ≡ units_after_request units.old (asked line.now)) }
+    ensures memory { IfUnsettled result (asked line.now ≡ make) }
     ensures kept { IfSettled result (Kept (carried units.old (asked line.now)) units.old units.new) }
 {
     done_with(units, heap, line)

@@ -1,5 +1,5 @@
 // The console: the units, the check in force, and the lines so far.
-ghost use Rattle.std.specs.Prelude.{◌≡◌, ◌++◌, Ok, Err, codes, Some, OnOk, IfOk, string_bytes};
+ghost use Rattle.std.specs.Prelude.{◌≡◌, ◌++◌, Ok, Err, codes, Some, OnOk, OnErr, IfOk, string_bytes};
 ghost use Rattle.words.specs.Split.{texts, words_of};
 ghost use Rattle.requests.specs.Lines.{asked, line_of};
 ghost use Rattle.results.specs.Outcomes.{outcome_of};
@@ -150,10 +150,12 @@ impl Console {
         Ok(text)
     }
 
-    // Takes the next line of the script: carries it out, and adds its number and result to the output.
+    // Takes the next line of the script: carries it out, and adds its number and result to the output, which stays as it was where
+    // memory runs out.
     pub fn take(&mut self, heap: Global, line: &[u8], out: &mut Vec<u8>) -> Result<(), AllocError>
         ensures state { OnOk result (self.new ≡ after self.old (words_of line.now)) }
         ensures text { OnOk result (out.new.items ≡ out.old.items ++ (printed self.old (words_of line.now))) }
+        ensures kept { OnErr result (out.new.items ≡ out.old.items) }
     {
         let text = self.taken(heap, line)?;
         out.extend_from_slice(text.as_bytes())
