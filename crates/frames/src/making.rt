@@ -135,7 +135,10 @@ impl Payload {
         }
         let mut held = [0; MOST];
         held[0..len].copy_from_slice(given);
-        Some(Payload { held, len })
+        Some(Payload {
+            held,
+            len: len as u8,
+        })
     }
 
     // A payload of no bytes: that of an acknowledgement.
@@ -152,7 +155,7 @@ impl Payload {
         ensures value { result.now ≡ payload_bytes self.now }
         ensures short { length result.now ≤ 32 }
     {
-        &self.held[0..self.len]
+        &self.held[0..self.len as usize]
     }
 }
 
@@ -163,5 +166,5 @@ pub(crate) fn known_fields(fields: &Fields)
     // what these calls ensure or are given is all the proof
     let _pid = fields.pid.number();
     known_bytes(&fields.address.held[0..fields.address.wide.bytes()]);
-    known_bytes(&fields.payload.held[0..fields.payload.len]);
+    known_bytes(&fields.payload.held[0..fields.payload.len as usize]);
 }
