@@ -1,4 +1,4 @@
-// Numbers and bytes in the bits of a buffer, whole bytes at a time. Each call takes its place `at`, and there is no cursor that
+// Numbers and bytes in the bits of a buffer, whole bytes at a time. Each call takes its place, and there is no cursor that
 // keeps one: the callers jump to the places that a frame's layout gives. A number of at most 16 bits is in up to three bytes;
 // what it is to each of them has no loop, so that a place and a count that the caller knows leave one byte's shift and mask.
 ghost use Rattle.std.specs.Prelude.{◌≡◌, ℕ, ◌+◌, ◌-◌, ◌*◌, ◌%◌, ◌^◌, ◌<◌, ◌≤◌, ◌++◌, false, length, take, drop, slice_set};
