@@ -1,9 +1,9 @@
 -- Numbers and bytes from bits, and back.
-use Rattle.std.proofs.Common.{◌≡◌, ℕ, zero, suc, ◌+◌, ◌*◌, ◌/◌, ◌%◌, ◌^◌, ◌<◌, ◌≤◌, Bool, true, false, eqb, List, [], ◌∷◌, ◌++◌, length, get_or, take, drop, set, replicate, sym, refl, ap, ◌∙◌, ap₂, mul-le-mul_right, mod-eq_of_lt, mul_assoc, add-mul, suc-add, pow-suc, zero-add, one-add, arith, take-add, pow_mono}
+use Rattle.std.proofs.Common.{◌≡◌, ℕ, zero, suc, ◌+◌, ◌*◌, ◌/◌, ◌%◌, ◌^◌, ◌<◌, ◌≤◌, Bool, true, false, eqb, List, [], ◌∷◌, ◌++◌, length, get_or, take, drop, replicate, sym, refl, ap, ◌∙◌, ap₂, mul-le-mul_right, mod-eq_of_lt, mul_assoc, add-mul, suc-add, pow-suc, zero-add, one-add, arith, take-add, pow_mono}
 use native.Mathlib.Nat.{mod-one, zero-div, zero-mod}
 use lib.Seq.{paste, drop-nil}
 use Rattle.std.proofs.lemmas.Nat.{mod-pow-add}
-use Rattle.std.proofs.lemmas.List.{take_more_set, length-take, take_at, drop_at, take-append-le, drop-append-le, length-take-le, length-drop, get_or-drop, drop-drop}
+use Rattle.std.proofs.lemmas.List.{length-take, take_at, drop_at, take-append-le, drop-append-le, length-take-le, length-drop, get_or-drop, drop-drop}
 use Rattle.std.proofs.lemmas.List.Edits.{paste_all}
 use Rattle.std.proofs.lemmas.Bool.Decides.{nat_tests}
 use Rattle.checks.specs.Bits.{bit, word, bits}
@@ -154,22 +154,6 @@ unfolding octets
 octets_bytes zero xs i = omega arith
 octets_bytes (suc k) xs zero = number_below (take 8 xs) 8 (omega (arith, length-take 8 xs))
 octets_bytes (suc k) xs (suc i) = octets_bytes k (drop 8 xs) i
-
-octets_more : (i : ℕ) (d : List Bool) → octets (i + 1) d ≡ octets i d ++ number (take 8 (drop (8 * i) d)) ∷ []
-unfolding octets
-octets_more zero d = refl
-octets_more (suc i) d =
-    let e : 8 + 8 * i ≡ 8 * suc i = omega arith in
-    rw suc-add
-    (ap (λ (ys : List ℕ). number (take 8 d) ∷ ys)
-    (octets_more i (drop 8 d) ∙ ap (λ (u : List Bool). octets i (drop 8 d) ++ number (take 8 u) ∷ [])
-    (drop-drop (8 * i) 8 d ∙ ap (λ (n : ℕ). drop n d) e)))
-
--- one more byte filled after i of them
-pub filled_more : (out : List ℕ) (i v : ℕ) (d : List Bool) → i < length out → v ≡ number (take 8 (drop (8 * i) d))
-    → take i out ≡ octets i d → take (i + 1) (set out i v) ≡ octets (i + 1) d
-filled_more out i v d h e f =
-    take_more_set out i v h ∙ ap₂ (λ (xs : List ℕ) (x : ℕ). xs ++ x ∷ []) f e ∙ sym (octets_more i d)
 
 zeros : (k : ℕ) → word k 0 ≡ replicate k false
 unfolding word

@@ -1,4 +1,4 @@
-// Numbers and bytes in the bits of a buffer, whole bytes at a time. Each call takes its place `at`, and there is no cursor that
+// Numbers and bytes in the bits of a buffer, whole bytes at a time. Each call takes its place, and there is no cursor that
 // keeps one: the callers jump to the places that a frame's layout gives. A number of at most 16 bits is in up to three bytes;
 // what it is to each of them has no loop, so that a place and a count that the caller knows leave one byte's shift and mask.
 ghost use Rattle.std.specs.Prelude.{◌≡◌, ℕ, ◌+◌, ◌-◌, ◌*◌, ◌%◌, ◌^◌, ◌<◌, ◌≤◌, ◌++◌, false, length, take, drop, slice_set};
@@ -115,6 +115,15 @@ fn across_eight(last: u8, eight: &[u8; 8], place: usize) -> [u8; 8]
     (kept << (64 - place) | u64::from_be_bytes(*eight) >> place).to_be_bytes()
 }
 
+// Eight bytes are written at the front, the others stay. No copy_from_slice: it would ask each time whether the two overlap.
+#[inline(always)]
+fn put_eight(buf: &mut [u8], eight: [u8; 8])
+    requires { 8 ≤ length buf.old }
+    ensures { buf.new ≡ eight ++ drop 8 buf.old }
+{
+    *buf.first_chunk_mut::<8>().unwrap() = eight;
+}
+
 // Bytes are filled by the last bits of a byte, as many as `place` says, and on by as many other bytes, eight at once. The
 // answer is the byte whose last bits, again as many, are left.
 #[inline(always)]
@@ -127,7 +136,7 @@ fn fill_across(first: u8, src: &[u8], place: usize, out: &mut [u8]) -> u8
     let mut last = first;
     let (eights, rest) = src.as_chunks::<8>();
     for (k, eight) in eights.iter().enumerate() {
-        out[8 * k..8 * k + 8].copy_from_slice(&across_eight(last, eight, place));
+        put_eight(&mut out[8 * k..8 * k + 8], across_eight(last, eight, place));
         last = eight[7];
     }
     let done = 8 * eights.len();

@@ -34,11 +34,12 @@ pub struct OutOfRange;
 // How many bytes a payload has at most; clauses say the number.
 pub(crate) const MOST: usize = 32;
 
-// 0 to 32 bytes, at the front of `held`: fixed memory and no ArrayVec, as for an address.
+// 0 to 32 bytes, at the front of `held`: fixed memory and no ArrayVec, as for an address. The length is a byte, from which the
+// compiler sees that no place in a frame wraps.
 #[derive(Clone, Copy, Debug)]
 pub struct Payload {
     pub(crate) held: [u8; MOST],
-    pub(crate) len: usize,
+    pub(crate) len: u8,
     ghost fits: { len ≤ 32 },
 }
 

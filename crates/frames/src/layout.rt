@@ -31,7 +31,7 @@ impl Layout {
     {
         Layout {
             wide: fields.address.wide,
-            len: fields.payload.len,
+            len: fields.payload.len as usize,
         }
     }
 

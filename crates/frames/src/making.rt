@@ -35,15 +35,29 @@ impl AddressWidth {
     }
 }
 
+// Bytes with zeros behind them. Each caller names their number, for which nothing is called.
+#[inline(always)]
+fn front(given: &[u8], width: usize) -> [u8; 5]
+    requires few { width ≤ 5 }
+    requires enough { width ≤ length given.now }
+    ensures { take width result ≡ take width given.now }
+{
+    let mut held = [0; 5];
+    held[0..width].copy_from_slice(&given[0..width]);
+    held
+}
+
 impl Address {
     // An address of these bytes, low byte first; there are 3 to 5. No TryFrom: an error would say no more than None does.
     pub fn new(given: &[u8]) -> Option<Address>
         ensures { MatchOption result ((3 ≤ length given.now → length given.now ≤ 5 → ⊥)) (λ a. address_bytes a ≡ given.now) }
     {
-        let wide = AddressWidth::try_from(given.len()).ok()?;
-        let mut held = [0; 5];
-        held[0..wide.bytes()].copy_from_slice(given);
-        Some(Address { held, wide })
+        match given.len() {
+            3 => Some(Address::of_low_bytes(front(given, 3), AddressWidth::Three)),
+            4 => Some(Address::of_low_bytes(front(given, 4), AddressWidth::Four)),
+            5 => Some(Address::of_low_bytes(front(given, 5), AddressWidth::Five)),
+            _ => None,
+        }
     }
 
     // The address of the low bytes of a register, as many as the width says.
@@ -141,7 +155,10 @@ impl Payload {
         }
         let mut held = [0; MOST];
         held[0..len].copy_from_slice(given);
-        Some(Payload { held, len })
+        Some(Payload {
+            held,
+            len: len as u8,
+        })
     }
 
     // A payload of no bytes: that of an acknowledgement.
@@ -158,7 +175,7 @@ impl Payload {
         ensures value { result.now ≡ payload_bytes self.now }
         ensures short { length result.now ≤ 32 }
     {
-        &self.held[0..self.len]
+        &self.held[0..self.len as usize]
     }
 }
 
@@ -169,5 +186,5 @@ pub(crate) fn known_fields(fields: &Fields)
     // what these calls ensure or are given is all the proof
     let _pid = fields.pid.number();
     known_bytes(&fields.address.held[0..fields.address.wide.bytes()]);
-    known_bytes(&fields.payload.held[0..fields.payload.len]);
+    known_bytes(&fields.payload.held[0..fields.payload.len as usize]);
 }

@@ -46,7 +46,7 @@ fn put_address(frame: &mut [u8], address: &Address)
 fn length_and_pid(fields: &Fields) -> u16
     ensures { word 8 result ≡ word 6 fields.now.payload.len ++ word 2 (pid_number fields.now.pid) }
 {
-    (fields.payload.len as u16) << 2 | u16::from(fields.pid.number())
+    u16::from(fields.payload.len) << 2 | u16::from(fields.pid.number())
 }
 
 // All but the check is written at the front; the answer is how many bits that are.
@@ -57,22 +57,20 @@ fn put_covered(fields: &Fields, frame: &mut [u8]) -> usize
     ensures small { result ≤ 313 }
     ensures bits { bits frame.new ≡ paste (bits frame.old) 0 (word 8 (preamble (covered (packet_of fields.now))) ++ covered (packet_of fields.now)) result }
 {
+    // the fields are read before anything is written: the compiler cannot tell that the buffer does not hold them
     let layout = Layout::of(fields);
+    let payload = fields.payload.bytes();
+    let control = length_and_pid(fields);
+    let no_ack = u8::from(fields.no_ack);
     put_address(frame, &fields.address);
-    put_bits(frame, layout.wide.control(), length_and_pid(fields), 8);
+    put_bits(frame, layout.wide.control(), control, 8);
     // from here on each byte stands one bit off a byte's start
-    let behind = 2 + layout.wide.bytes();
-    put_behind(
-        frame,
-        behind,
-        u8::from(fields.no_ack),
-        1,
-        fields.payload.bytes(),
-    );
+    put_behind(frame, 2 + layout.wide.bytes(), no_ack, 1, payload);
     layout.check()
 }
 
 // The frame's bytes, spare bits 0; later bytes stay. The answer is the bit count.
+#[inline(always)]
 pub fn pack<C: Check>(fields: &Fields, frame: &mut [u8]) -> Result<usize, Refusal>
     ensures sound { Valid (width_of fields.now.address.wide) (packet_of fields.now) }
     ensures packed { Packed C.Check.W C.meaning (packet_of fields.now) frame.old result frame.new }

@@ -84,7 +84,7 @@ fn fields_at(frame: &[u8], layout: Layout) -> Fields
         no_ack: bit_at(frame, control + 8),
         payload: Payload {
             held: payload,
-            len: layout.len,
+            len: layout.len as u8,
         },
     }
 }

@@ -1,6 +1,6 @@
 use Rattle.std.proofs.Common.{◌≡◌, ℕ, List, ◌+◌, ◌-◌, ◌*◌, ◌/◌, ◌<◌, [], ◌++◌, take, drop, get_or, set, length, refl, sym, ap, ◌∙◌, subst, arith}
 use lib.Seq.{paste}
-use Rattle.std.proofs.lemmas.List.{get_or-drop, take_all}
+use Rattle.std.proofs.lemmas.List.{get_or-drop, take_all, drop_all, append-nil, length-take}
 use Rattle.std.proofs.lemmas.Slice.{put_mid-paste}
 use Rattle.checks.specs.Bits.{word, bits}
 use Rattle.frames.proofs.Words.{Filled, filled_none, filled_one, filled_eight, chunk_at}
@@ -23,8 +23,11 @@ loop-k-preserved c =
     let ce : eight ≡ take 8 (drop (8 * k) src) =
     ap (λ (xs : List (List ℕ)). get_or xs k []) c.as_chunks.ensures.front ∙ chunk_at (length src / 8) src k few in
     let ly : length ys ≡ 8 = omega arith in
+    let part = take (8 * k + 8 - 8 * k) (drop (8 * k) now) in
+    let whole : c.put_eight.new.buf ≡ ys =
+    c.put_eight.ensures ∙ ap (λ (u : List ℕ). ys ++ u) (drop_all 8 part (omega (arith, length-take (8 * k + 8 - 8 * k) (drop (8 * k) now)))) ∙ append-nil ys in
     subst (λ (b : List ℕ). Filled first src place b (get_or eight 7 0) (8 * (k + 1)))
-    (sym (put_mid-paste (8 * k) (8 * k + 8 - 8 * k) now c.copy_from_slice.new.self ys 8 c.copy_from_slice.ensures.after (omega arith) (sym ly)))
+    (sym (put_mid-paste (8 * k) (8 * k + 8 - 8 * k) now c.put_eight.new.buf ys 8 whole (omega arith) (sym ly)))
     (subst (λ (m : ℕ). Filled first src place (paste now (8 * k) ys 8) (get_or eight 7 0) m) e
     (filled_eight first src now place c.loop-k.last (8 * k) ys eight (omega (arith, few)) (omega (arith, few)) (omega arith) ce ly c.across_eight.ensures c.loop-k.invariant))
 
