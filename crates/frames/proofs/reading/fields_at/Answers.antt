@@ -1,4 +1,4 @@
-use Rattle.std.proofs.Common.{List, ◌≡◌, ℕ, ◌+◌, ◌-◌, ◌*◌, false, length, get_or, take, drop, replicate, refl, ap, ◌∙◌, subst, ap₂, arith}
+use Rattle.std.proofs.Common.{List, ◌≡◌, ℕ, ◌+◌, ◌-◌, ◌*◌, false, length, get_or, take, drop, refl, ap, ◌∙◌, subst, ap₂, arith}
 use Rattle.std.proofs.lemmas.List.{take_at, length-take-le}
 use Rattle.checks.specs.Bits.{bits}
 use Rattle.frames.specs.Octets.{number, octets}
@@ -14,10 +14,10 @@ returns c =
     let width = width_of c.args.layout.wide in
     let len = c.args.layout.len in
     let control = c.control-control.ensures.value in
-    let zeros : List ℕ = replicate 32 0 in
-    let ll : length (take (len - 0) zeros) ≡ len = length-take-le (len - 0) zeros (omega (arith, c.args.layout.fits)) ∙ omega arith in
+    let room : (z : List ℕ) → length z ≡ 32 → length (take (len - 0) z) ≡ len =
+    λ z e. length-take-le (len - 0) z (omega (arith, e, c.args.layout.fits)) ∙ omega arith in
     let ep : c.get_octets.new.out ≡ octets len (drop (8 + 8 * width + 9) b) =
-    c.get_octets.ensures ∙ ap₂ (λ (n at : ℕ). octets n (drop at b)) ll c.payload.ensures.value in
+    c.get_octets.ensures ∙ ap₂ (λ (n at : ℕ). octets n (drop at b)) (room _ refl) c.payload.ensures.value in
     let pid : pid_number c.unwrap-pid.result ≡ c.get_bits.result =
     subst (PidOrNone c.get_bits.result) c.unwrap-pid.ensures c.try_from.ensures in
     let lp : length c.get_octets.new.out ≡ len = ap length ep ∙ length_octets len (drop (8 + 8 * width + 9) b) in
