@@ -54,6 +54,7 @@ impl State {
 
     // The pipe of a receiver with this address. By reference and `copied`: what is found in an
     // array by value needs a lemma of bench's, and is no plainer.
+    #[inline(always)]
     pub fn pipe_of(&self, address: &Address) -> Option<Pipe>
         ensures { result ≡ pipe_of self.now.registers (address_bytes address.now) }
     {

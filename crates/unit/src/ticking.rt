@@ -12,7 +12,9 @@ use checks::Check;
 use commands::Refusal;
 use frames::Fields;
 
-// Writes a frame into the buffer, which has room for it, and answers its bit count.
+// Writes a frame into the buffer, which has room for it, and answers its bit count. Inlined, so that little is left of it for an
+// acknowledgement, whose payload is known to be empty.
+#[inline(always)]
 pub(crate) fn put_frame<C: Check>(fields: &Fields, buffer: &mut [u8]) -> usize
     requires { 42 ≤ length buffer.old }
     ensures answer { result ≡ length (bits_of C.Check.W C.meaning (Some (packet_of fields.now))) }
