@@ -1,5 +1,5 @@
 -- The boxed units in the first places, taken out and put back.
-use Rattle.std.proofs.Common.{◌≡◌, ℕ, zero, suc, ◌<◌, ◌≤◌, false, List, [], ◌∷◌, ◌++◌, length, is_some, get_or, set, drop, replicate, Some, None, Ok, Option, sym, refl, ap, ◌∙◌, append_assoc, append-nil, arith}
+use Rattle.std.proofs.Common.{◌≡◌, ℕ, zero, suc, ◌<◌, ◌≤◌, false, List, [], ◌∷◌, ◌++◌, length, is_some, get_or, set, drop, replicate, Some, None, Option, sym, refl, ap, ◌∙◌, append_assoc, append-nil, arith}
 use Rattle.std.proofs.Math.Seq.{drop-cons}
 use Rattle.bench.specs.declared.unit.Bench.{Bench as BenchUnit}
 use Rattle.unit.specs.declared.state.Boxed.{Boxed as BoxedUnit}
@@ -10,7 +10,7 @@ use Rattle.desk.specs.declared.slot.Desk.{Desk}
 use Rattle.desk.specs.Slots.{Slot}
 use Rattle.desk.specs.Counts.{no_counts}
 use Rattle.desk.specs.CellCalls.{with_inside}
-use Rattle.desk.specs.Making.{boxed_first, without_boxed, with_boxed, made_unless, make_said_by, desk_made_by, desk_made, desk_make_by, desk_make_said}
+use Rattle.desk.specs.Making.{boxed_first, without_boxed, with_boxed, made_unless, desk_made_by, desk_made}
 
 pub none_of : {X : Type 0} (o : Option X) → is_some o ≡ false → o ≡ None
 none_of None h = refl

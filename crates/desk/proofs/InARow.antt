@@ -1,11 +1,10 @@
 -- Ticks of a boxed unit, one after another.
-use Rattle.std.proofs.Common.{◌≡◌, ℕ, suc, ◌+◌, ◌-◌, ◌<◌, ◌≤◌, Bool, true, false, cond, ◌⊎◌, inl, inr, List, is_some, Some, None, Ok, Err, Option, sym, refl, ap, ◌∙◌, subst, arith}
-use Rattle.commands.specs.declared.refusal.Refusal.{Refusal}
+use Rattle.std.proofs.Common.{◌≡◌, ℕ, suc, ◌+◌, ◌-◌, ◌<◌, ◌≤◌, Bool, true, false, cond, ◌⊎◌, inl, inr, List, is_some, None, Ok, Option, sym, refl, ap, ◌∙◌, subst, arith}
 use Rattle.commands.specs.Refusals.{unless, kept_or}
 use Rattle.unit.specs.declared.state.State.{State}
 use Rattle.unit.specs.Ticking.{tick_refusal, tick_state, tick_after}
 use Rattle.desk.specs.declared.answer.Frame.{Frame}
-use Rattle.desk.specs.Answers.{ticked, refused, or_refused}
+use Rattle.desk.specs.Answers.{ticked, or_refused}
 use Rattle.desk.specs.Boxed.{Ticks, one_more, frame_sent, ticks, boxed_ticks}
 use Rattle.desk.proofs.Replies.{ok_unless}
 

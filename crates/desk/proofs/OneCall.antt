@@ -1,10 +1,9 @@
 -- A list of one call on a cell.
-use Rattle.std.proofs.Common.{◌≡◌, ℕ, Bool, List, [], ◌∷◌, get_or, Some, None, Ok, Err, Option, Result, sym, refl, ap, ◌∙◌, arith, rules}
+use Rattle.std.proofs.Common.{◌≡◌, ℕ, Bool, List, [], ◌∷◌, get_or, Some, None, Option, sym, refl, ap, ◌∙◌, arith, rules}
 use Rattle.std.specs.Option.{IsSome}
 use Rattle.std.specs.Option.{option_map}
 use Rattle.cell.specs.declared.parts.Inside.{Inside}
-use Rattle.cell.specs.declared.refusal.Refusal.{Refusal}
-use Rattle.law.specs.Runs.{Call, Outcome, replied, done, refused, answer_of, outcome, after, led, outcomes}
+use Rattle.law.specs.Runs.{Call, Outcome, outcome, after, led, outcomes}
 use Rattle.delivery.specs.declared.entry.Entry.{Entry}
 use Rattle.delivery.specs.declared.entry.Outcome.{Outcome as Written}
 use Rattle.delivery.specs.Entries.{outcome_of, written}

@@ -4,7 +4,7 @@ use Rattle.std.specs.Option.{option_map}
 use Rattle.cell.specs.declared.parts.Inside.{Inside}
 use Rattle.cell.specs.declared.refusal.Refusal.{Refusal}
 use Rattle.cell.specs.Calls.{tick_result, ticked}
-use Rattle.desk.specs.Answers.{ticked as ticks_taken, refused_in_cell}
+use Rattle.desk.specs.Answers.{ticked as ticks_taken}
 use Rattle.desk.specs.CellCalls.{CellTicks, one_more, then_ticks, frame_aired, cell_ticks, ticks_said_by, ticks_said}
 
 -- k ticks, then others
