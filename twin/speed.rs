@@ -309,7 +309,13 @@ fn main() {
         };
         std::process::exit(i32::from(!measure(&hour, 1)));
     }
-    let rounds = arg.map_or(9, |arg| arg.parse().expect("a number"));
+    // one loop of one of the two, by its row, for counting instructions
+    let alone = arg.as_deref().filter(|&arg| arg == "engine" || arg == "twin").map(|whose| {
+        let mut numbers = std::env::args().skip(2).map(|arg| arg.parse().expect("a number"));
+        let row = numbers.next().filter(|row| (1..=12).contains(row)).expect("a row, 1 to 12");
+        (whose.to_string(), row as usize, numbers.next().expect("turns"))
+    });
+    let rounds = arg.filter(|_| alone.is_none()).map_or(9, |arg| arg.parse().expect("a number"));
     let rows = [
         Row {
             what: "check of 8 bits, 321 bits",
@@ -384,6 +390,12 @@ fn main() {
             twins: |n| round(n, 6_000),
         },
     ];
+    if let Some((whose, row, turns)) = alone {
+        let row = &rows[row - 1];
+        let work = if whose == "twin" { row.twins } else { row.ours };
+        println!("{}: {}", row.what, work(turns));
+        return;
+    }
     println!("| {:67} | engine, ns | twin, ns   | ratio  |", "");
     println!("|{}|------------|------------|--------|", "-".repeat(69));
     let mut same = true;
