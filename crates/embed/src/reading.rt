@@ -1,12 +1,12 @@
 // Reading.
-ghost use Rattle.std.specs.Prelude.{◌≡◌, ◌*◌, length, take};
+ghost use Rattle.std.specs.Prelude.{◌≡◌, ◌*◌, ◌++◌, length, take, drop, replicate};
 ghost use Rattle.checks.specs.Bits.{bits as bits_of};
 ghost use Rattle.frames.specs.Packet.{reading};
-ghost use Rattle.frames.specs.Calls.{width_of, packet_of};
+ghost use Rattle.frames.specs.Calls.{width_of, packet_of, address_bytes};
 ghost use Rattle.embed.specs.Reading.{no_packet, outcome_number, shown, outcome_of, after, outcome, packet_after};
 
 use checks::{Check, Crc8, Crc16};
-use frames::{AddressWidth, Heard};
+use frames::{Address, AddressWidth, Heard};
 
 // What was read, as C has it: of the address the bytes in use stand in front, low byte first, of the payload as many as its
 // length says, and 0 behind them.
@@ -49,13 +49,25 @@ enum Outcome {
     NoCall = 255,
 }
 
+// The bytes of an address, with 0 behind them. By patterns: so few bytes are not worth a call that copies them.
+fn address_shown(address: &Address) -> [u8; 5]
+    ensures { result ≡ address_bytes address.now ++ drop (length (address_bytes address.now)) (replicate 5 0) }
+{
+    // there are 3 to 5: no other arm is ever taken
+    let _few = address.width().bytes();
+    match *address.bytes() {
+        [a, b, c] => [a, b, c, 0, 0],
+        [a, b, c, d] => [a, b, c, d, 0],
+        [a, b, c, d, e] => [a, b, c, d, e],
+        _ => [0; 5],
+    }
+}
+
 fn found(heard: &Heard) -> PacketRead
     ensures { result ≡ shown heard.now.check (packet_of heard.now.fields) }
 {
     let fields = &heard.fields;
-    let bytes = fields.address.bytes();
-    let mut address = [0; 5];
-    address[0..bytes.len()].copy_from_slice(bytes);
+    let address = address_shown(&fields.address);
     let bytes = fields.payload.bytes();
     let mut payload = [0; 32];
     payload[0..bytes.len()].copy_from_slice(bytes);
