@@ -69,6 +69,17 @@ pub run_append : (w p r : ℕ) (a b : List Bool) → run w p r (a ++ b) ≡ run 
 run_append w p r [] b = refl
 run_append w p r (x ∷ a) b = run_append w p (step w p r x) a b
 
+pub run_more :
+    (w p r : ℕ) (s : List Bool) (i : ℕ) → i < length s
+    → run w p r (take (i + 1) s) ≡ step w p (run w p r (take i s)) (slice_index_or s i false)
+run_more w p r s i h = ap (run w p r) (take_more s i false h) ∙ run_append w p r (take i s) (slice_index_or s i false ∷ [])
+
+-- the same of a byte string's bits
+pub run_more_of_bytes :
+    (w p r : ℕ) (bs : List ℕ) (i : ℕ) → i < 8 * length bs
+    → run w p r (take (i + 1) (bits bs)) ≡ step w p (run w p r (take i (bits bs))) (slice_index_or (bits bs) i false)
+run_more_of_bytes w p r bs i h = run_more w p r (bits bs) i (omega (arith, h, length_bits bs))
+
 -- the first bits, up to a place within byte i
 pub bits_more :
     (bs : List ℕ) (i count : ℕ) → i < length bs → count ≤ 8
