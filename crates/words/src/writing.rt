@@ -1,10 +1,11 @@
 // Bytes as results write them. Numbers are written as std prints them.
 ghost use Rattle.std.specs.Prelude.{◌≡◌, ℕ, ◌<◌, reverse, Some, Ok};
+ghost use Rattle.std.specs.Fmt.{WritesOnOk};
 ghost use Rattle.words.specs.Numbers.{byte_of, together_of, decimal_of, digit_shown, byte_shown, bytes_shown, digits_shown, decimal_shown};
 ghost use Rattle.words.specs.Split.{words_of};
 ghost use Rattle.words.specs.Bytes.{bytes_from};
 
-use std::fmt;
+use std::{fmt, str};
 
 // Nothing is done but that the parameter is used: the contract says that bytes read back from their digits, one by one, apart and together.
 pub fn bytes_read_back(bytes: &[u8])
@@ -29,12 +30,20 @@ fn digit(d: u8) -> u8
     if d < 10 { b'0' + d } else { b'A' + (d - 10) }
 }
 
-// The two digits of a byte, in upper case, for a caller who has no writer. They read back as the byte.
+// The two digits of a byte, in upper case. They read back as the byte.
 pub fn hex(b: u8) -> [u8; 2]
     ensures shown { result ≡ byte_shown b }
     ensures reads { byte_of result ≡ Some b }
 {
     [digit(b / 16), digit(b % 16)]
+}
+
+// Writes bytes that are a text, as digits are. `{:02X}` writes the same, by several times the instructions.
+fn write_text<W: fmt::Write>(f: &mut fmt::Formatter<W>, bytes: &[u8]) -> fmt::Result
+    ensures { WritesOnOk W.write_str_gives f.old result bytes.now f.new }
+{
+    let text = str::from_utf8(bytes).map_err(|_| fmt::Error)?;
+    f.write_str(text)
 }
 
 // The three loops below stay apart: one function over any iterator of bytes would need more contract than it saves code.
@@ -48,7 +57,8 @@ impl fmt::Display for Apart<'_> {
 
     fn fmt<W: fmt::Write>(&self, f: &mut fmt::Formatter<W>) -> fmt::Result {
         for &b in self.0 {
-            write!(f, " {b:02X}")?;
+            let [high, low] = hex(b);
+            write_text(f, &[b' ', high, low])?;
         }
         Ok(())
     }
@@ -63,7 +73,7 @@ impl fmt::Display for Joined<'_> {
 
     fn fmt<W: fmt::Write>(&self, f: &mut fmt::Formatter<W>) -> fmt::Result {
         for &b in self.0 {
-            write!(f, "{b:02X}")?;
+            write_text(f, &hex(b))?;
         }
         Ok(())
     }
@@ -78,7 +88,7 @@ impl fmt::Display for Reversed<'_> {
 
     fn fmt<W: fmt::Write>(&self, f: &mut fmt::Formatter<W>) -> fmt::Result {
         for &byte in self.0.iter().rev() {
-            write!(f, "{byte:02X}")?;
+            write_text(f, &hex(byte))?;
         }
         Ok(())
     }
