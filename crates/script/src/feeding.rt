@@ -61,7 +61,7 @@ fn feed_lines<R: BufRead, W: Write>(
         console.old console.new (W.contents out.old) (W.contents out.new)) }
 {
     let mut line = Vec::new(heap);
-    let mut text = Vec::new(heap);
+    let mut text = String::new(heap);
     // Each loop is proved to end, so this one counts; no script has that many lines.
     for _ in 0..u64::MAX {
         line.clear();
@@ -71,8 +71,8 @@ fn feed_lines<R: BufRead, W: Write>(
             Ok(_) => {}
             Err(e) => return Err(Halt::Input(e)),
         }
-        console.take(heap, &line, &mut text)?;
-        if let Err(e) = write_text(out, &text) {
+        console.print(heap, &line, &mut text)?;
+        if let Err(e) = write_text(out, text.as_bytes()) {
             return Err(Halt::Output(e));
         }
     }

@@ -100,8 +100,9 @@ impl Console {
         ensures state { OnOk result (self.new ≡ after_line self.old (Err cannot)) }
         ensures text { OnOk result (string_bytes out.new ≡ string_bytes out.old ++ (cannot_text cannot ++ codes "\n")) }
     {
+        writeln!(out, "{}", Unable(cannot))?;
         self.unable = self.unable.saturating_add(1);
-        writeln!(out, "{}", Unable(cannot))
+        Ok(())
     }
 
     fn carry(&mut self, heap: Global, line: &Line, out: &mut String) -> Result<(), AllocError>
@@ -111,9 +112,11 @@ impl Console {
         let kind = self.units.kind();
         match carry_out(&mut self.units, heap, line) {
             Ok(answer) => {
-                self.carried = self.carried.saturating_add(1);
                 let answer = &answer;
-                write!(out, "{answer}\n{}", Explained { kind, line, answer })
+                write!(out, "{answer}\n{}", Explained { kind, line, answer })?;
+                // behind its text: a line whose result finds no memory is not counted
+                self.carried = self.carried.saturating_add(1);
+                Ok(())
             }
             Err(Stop::Cannot(cannot)) => self.refuse(cannot, out),
             // as in `answer`
@@ -134,20 +137,23 @@ impl Console {
         }
     }
 
-    // The number and the result of the next line. They go to a String, of which it is known what `write!` adds.
-    fn taken(&mut self, heap: Global, line: &[u8]) -> Result<String, AllocError>
+    // Carries out the next line, and adds its number and result to a text, which the caller can keep from line to line.
+    pub(crate) fn print(
+        &mut self,
+        heap: Global,
+        line: &[u8],
+        text: &mut String,
+    ) -> Result<(), AllocError>
         ensures state { OnOk result (self.new ≡ after self.old (words_of line.now)) }
-        ensures text { IfOk result (λ s. string_bytes s ≡ printed self.old (words_of line.now)) }
+        ensures text { OnOk result (string_bytes text.new ≡ string_bytes text.old ++ printed self.old (words_of line.now)) }
     {
-        let mut text = String::new(heap);
         self.lines = self.lines.saturating_add(1);
         let words = words(heap, line)?;
         if words.is_empty() {
-            return Ok(text);
+            return Ok(());
         }
         write!(text, "{}: ", self.lines)?;
-        self.answer(heap, &words, &mut text)?;
-        Ok(text)
+        self.answer(heap, &words, text)
     }
 
     // Takes the next line of the script: carries it out, and adds its number and result to the output, which stays as it was where
@@ -157,7 +163,8 @@ impl Console {
         ensures text { OnOk result (out.new.items ≡ out.old.items ++ (printed self.old (words_of line.now))) }
         ensures kept { OnErr result (out.new.items ≡ out.old.items) }
     {
-        let text = self.taken(heap, line)?;
+        let mut text = String::new(heap);
+        self.print(heap, line, &mut text)?;
         out.extend_from_slice(text.as_bytes())
     }
 }

@@ -5,3 +5,4 @@ pub mod Pairs
 pub mod Back
 pub mod Grammar
 pub mod Shown
+pub mod Texts

@@ -19,16 +19,15 @@ more f bs i h =
     ∙ sym (flat_map-append f (take i bs) (get_or bs i 0 ∷ []))
     ∙ ap (flat_map f) (sym (take_more bs i 0 h))
 
-pub joined_more : (bs : List ℕ) (i : ℕ) → i < length bs → get_or bs i 0 < 256 → digits_shown (take i bs) ++ written (get_or bs i 0) ≡ digits_shown (take (i + 1) bs)
-joined_more bs i h small = ap (λ l. digits_shown (take i bs) ++ l) (byte_written _ small) ∙ more byte_shown bs i h
+pub joined_more : (bs : List ℕ) (i : ℕ) → i < length bs → digits_shown (take i bs) ++ byte_shown (get_or bs i 0) ≡ digits_shown (take (i + 1) bs)
+joined_more bs i h = more byte_shown bs i h
 
-pub apart_more : (bs : List ℕ) (i : ℕ) → i < length bs → get_or bs i 0 < 256 → bytes_shown (take i bs) ++ (32 ∷ written (get_or bs i 0)) ≡ bytes_shown (take (i + 1) bs)
-apart_more bs i h small = ap (λ l. bytes_shown (take i bs) ++ (32 ∷ l)) (byte_written _ small) ∙ more (λ b. 32 ∷ byte_shown b) bs i h
+pub apart_more : (bs : List ℕ) (i : ℕ) → i < length bs → bytes_shown (take i bs) ++ (32 ∷ byte_shown (get_or bs i 0)) ≡ bytes_shown (take (i + 1) bs)
+apart_more bs i h = more (λ b. 32 ∷ byte_shown b) bs i h
 
 -- one byte from the back
-pub reversed_more : (bs front : List ℕ) (x b : ℕ) (before : List ℕ) → bs ≡ push front x → x ≡ b → b < 256 → before ++ digits_shown (reverse bs) ≡ (before ++ written b) ++ digits_shown (reverse front)
-reversed_more bs front x b before e same small =
+pub reversed_more : (bs front : List ℕ) (x b : ℕ) (before : List ℕ) → bs ≡ push front x → x ≡ b → before ++ digits_shown (reverse bs) ≡ (before ++ byte_shown b) ++ digits_shown (reverse front)
+reversed_more bs front x b before e same =
     ap (λ l. before ++ digits_shown (reverse l)) (e ∙ ap (push front) same)
     ∙ ap (λ l. before ++ digits_shown l) (reverse-append front (b ∷ []))
-    ∙ ap (λ l. before ++ (l ++ digits_shown (reverse front))) (sym (byte_written b small))
-    ∙ sym (append_assoc before (written b) (digits_shown (reverse front)))
+    ∙ sym (append_assoc before (byte_shown b) (digits_shown (reverse front)))

@@ -1,6 +1,8 @@
 -- How numbers and bytes are written.
-use Rattle.std.specs.Prelude.{ℕ, ◌+◌, ◌-◌, ◌*◌, ◌/◌, ◌%◌, ◌^◌, Bool, false, cond, List, [], ◌∷◌, ◌++◌, length, Some, None, decimal, Option, ◌==◌, nat_le, nat_lt, slice_index}
+use Rattle.std.specs.Prelude.{ℕ, ◌+◌, ◌-◌, ◌*◌, ◌/◌, ◌%◌, ◌^◌, Bool, true, false, cond, ◌&&◌, List, [], ◌∷◌, ◌++◌, length, Some, None, decimal, Option, ◌==◌, nat_le, nat_lt, slice_index}
 use Rattle.std.specs.List.{flat_map}
+use Rattle.std.specs.Borrow.{Bor}
+use Rattle.std.specs.Str.{bytes_eq}
 
 abbrev pub within : ℕ → ℕ → ℕ → Bool
 within low high c = cond (nat_le low c) (nat_le c high) false
@@ -56,6 +58,11 @@ byte_shown b = digit_shown (b / 16) ∷ digit_shown (b % 16) ∷ []
 -- a blank and two digits for each byte
 abbrev pub bytes_shown : List ℕ → List ℕ
 bytes_shown bs = flat_map (λ b. 32 ∷ byte_shown b) bs
+
+-- a table of such texts for the bytes from b on, as a test that computes
+abbrev pub all_behind_blanks : List (Bor (List ℕ)) → ℕ → Bool
+all_behind_blanks [] b = true
+all_behind_blanks (x ∷ xs) b = bytes_eq x.now (32 ∷ byte_shown b) && all_behind_blanks xs (b + 1)
 
 -- two digits for each byte, with no blank
 abbrev pub digits_shown : List ℕ → List ℕ

@@ -15,7 +15,7 @@ loop-preserved g c =
     let some : 0 < length line = omega (arith, c.in-Ok.ensures.ok, c.in-Ok.field-0-test, c.read_until.new.buf.ok.0) in (
       _,
       Leaves-more _ _ _ ls c.clear.new.self.items line leaves (search rules) some c.in-Ok.ensures.bytes c.in-Ok.ensures.rest,
-      Takes-more ls line c.take.new.out.items _ _ _ _ _ _ took (search rules) (search rules) (search rules),
+      Takes-more ls line c.as_bytes.result.now _ _ _ _ _ _ took (search rules) (search rules) (search rules),
     )
 
 pub returns-in-Ok-eq0 : goal.returns-in-Ok-eq0
@@ -28,8 +28,8 @@ returns-in-Err-clause-stopped g c =
     let (ls, leaves, took) = c.loop.invariant in
     (ls, AreFirstLines-of_left _ _ _ leaves, took)
 
-pub returns-in_err-take-clause-stopped : goal.returns-in_err-take-clause-stopped
-returns-in_err-take-clause-stopped g c =
+pub returns-in_err-print-clause-stopped : goal.returns-in_err-print-clause-stopped
+returns-in_err-print-clause-stopped g c =
     let (ls, leaves, took) = c.loop.invariant in
     let p = err_from_is_err_and c.from_residual.result c.from_residual.ensures.1 in
     rw (p.1, p.2) (ls, AreFirstLines-of_left _ _ _ leaves, took.1)
@@ -39,12 +39,13 @@ returns-in-Err-write_text-clause-stopped g c =
     let (ls, leaves, took) = c.loop.invariant in
     let line = c.read_until.new.buf.items in
     let some : 0 < length line = omega (arith, c.in-Ok.ensures.ok, c.in-Ok.field-0-test, c.read_until.new.buf.ok.0) in
-    let says : c.deref-in-loop.result.now ≡ printed c.loop.console (words_of line) = search rules in
+    let text = c.as_bytes.result.now in
+    let says : text ≡ printed c.loop.console (words_of line) = search rules in
     let (front, rest, split, grown) = c.in-Err-write_text.ensures.err in (
       ls,
       line,
       AreFirstLines-of_left _ _ _ (Leaves-more _ _ _ ls c.clear.new.self.items line leaves (search rules) some c.in-Ok.ensures.bytes c.in-Ok.ensures.rest),
-      Cuts-at ls line c.deref-in-loop.result.now front rest _ _ _ _ _ _ took (search rules) says split grown,
+      Cuts-at ls line text front rest _ _ _ _ _ _ took (search rules) says split grown,
     )
 
 pub returns-clause-stopped : goal.returns-clause-stopped

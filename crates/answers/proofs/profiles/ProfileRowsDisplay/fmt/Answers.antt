@@ -1,11 +1,11 @@
-use Rattle.std.proofs.Common.{rules, ◌≡◌, ◌+◌, ◌++◌, None, take, length, sym, ap, subst, ◌<◌, ◌∙◌, arith}
+use Rattle.std.proofs.Common.{rules, ◌≡◌, ◌+◌, ◌++◌, None, take, length, refl, sym, ap, subst, ◌<◌, ◌∙◌, arith}
 use Rattle.std.proofs.Output.{has_written_append, has_written_of_eq}
 use Rattle.std.specs.Fmt.{HasWritten}
 use Rattle.std.proofs.lemmas.List.{append-nil}
 use Rattle.answers.specs.Profiles.{rows_of}
-use Rattle.answers.proofs.Rows.{row_more, row_is, row_text, row_written}
+use Rattle.answers.proofs.Rows.{row_more, row_is}
 use Rattle.answers.proofs.profiles.ProfileRowsDisplay.fmt.Goals as goal
-use Rattle.answers.proofs.profiles.ProfileRowsDisplay.fmt.Goals.{in-Some+in_ok-writeln, in_default-field}
+use Rattle.answers.proofs.profiles.ProfileRowsDisplay.fmt.Goals.{in-Some+in_ok-write_row, in_default-field}
 
 pub loop-register-preserved : goal.loop-register-preserved
 loop-register-preserved g c = λ plain.
@@ -15,13 +15,12 @@ loop-register-preserved g c = λ plain.
     let within = subst (λ rs. i < length rs) (sym c.all-register-items.ensures) c.loop-register-test.true in
     let so_far = c.loop-register.invariant plain in
     elim c.match-field.branch [
-      | in-Some+in_ok-writeln w ↦
-          let row : HasWritten took c.loop-register.f (row_text w.address-address.result w.name-name.result.now w.in-Some.bytes.now) w.writeln.new.self = search rules in
-          let same = row_written _ _ _ w.in-Some.bytes.now w.address-address.ensures.value (omega (arith, w.address-address.ensures.bound)) w.name-name.ensures in
+      | in-Some+in_ok-write_row w ↦
+          let row = w.in_ok-write_row.ensures so_far.plain refl in
           let is = row_is _ p _ _ c.in-Ok.ensures.0 c.in-Ok.ensures.1 w.in-Some.ensures in
           subst (λ f. HasWritten took c.args.f.now (rows_of p (take (i + 1) c.all-register-items.result)) f) (sym w.f-is)
           (has_written_of_eq _ _ _ _ _ (row_more p c.all-register-items.result i _ within)
-          (has_written_append _ _ _ _ _ _ so_far (has_written_of_eq _ _ _ _ _ (same ∙ is) row)))
+          (has_written_append _ _ _ _ _ _ so_far (has_written_of_eq _ _ _ _ _ is row)))
       | in_default-field w ↦
           let done = rows_of p (take i c.all-register-items.result) in
           let is = row_is _ p _ None c.in-Ok.ensures.0 c.in-Ok.ensures.1 w.in_default-field.ensures in
