@@ -27,6 +27,7 @@ use Rattle.cell.specs.Calls.{unit_at}
 -- ---- units as boxing without a fault gives them
 
 -- CONFIG is as it was boxed, but for the interrupt masks: they can be written in the box too, and boxing with those masks gives that state
+-- but for the CONFIG kept in the registers, where no call reads the masks
 abbrev pub but_for_masks : ℕ → ℕ → Bool
 but_for_masks boxed now = list_all (λ place. alike (bit place boxed) (bit place now)) (7 ∷ (3 ∷ (2 ∷ (1 ∷ (0 ∷ [])))))
 

@@ -60,7 +60,7 @@ fn is_as_boxed_but_for_masks(boxed: u8, now: u8) -> bool
         && is_bit_alike(boxed, now, 0)
 }
 
-// The same state, with the registers and memories that it has.
+// The state that boxing gives, with the registers, the interrupt masks and the memories that it has.
 fn is_as_boxed<C: Check>(unit: &State) -> bool
     ensures { result ≡ as_boxed C.Check.W unit.now }
 {
