@@ -60,6 +60,9 @@ impl fmt::Display for Explained<'_> {
     }
 }
 
+// Most results, with what is explained below them, have no more bytes: room for them at once, so that a text does not grow bit by bit.
+const USUAL_RESULT: usize = 512;
+
 #[derive(Drop)]
 pub struct Console {
     units: Units,
@@ -152,6 +155,7 @@ impl Console {
         if words.is_empty() {
             return Ok(());
         }
+        text.reserve(USUAL_RESULT)?;
         write!(text, "{}: ", self.lines)?;
         self.answer(heap, &words, text)
     }
