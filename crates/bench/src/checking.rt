@@ -39,7 +39,7 @@ impl Bench {
         ensures { result ≡ en_aa_fault self.now.registers }
     {
         if self.registers.is_receiver() {
-            Pipe::all().into_iter().any(|pipe| self.is_unanswered(pipe))
+            Pipe::all().iter().any(|pipe| self.is_unanswered(*pipe))
         } else {
             self.is_unanswered(Pipe::P0)
         }
@@ -50,8 +50,8 @@ impl Bench {
     {
         if self.registers.is_receiver() {
             !Pipe::all()
-                .into_iter()
-                .any(|pipe| self.registers.is_enabled(pipe))
+                .iter()
+                .any(|pipe| self.registers.is_enabled(*pipe))
         } else {
             !self.registers.is_enabled(Pipe::P0)
         }
@@ -112,11 +112,19 @@ impl Bench {
             Register::Config => self.config_fault(width),
             Register::EnAa => self.en_aa_fault(),
             Register::EnRxaddr => self.en_rxaddr_fault(),
+            Register::RxAddrP1 => self.address_fault(Pipe::P1),
+            Register::RxAddrP2 => self.address_fault(Pipe::P2),
+            Register::RxAddrP3 => self.address_fault(Pipe::P3),
+            Register::RxAddrP4 => self.address_fault(Pipe::P4),
+            Register::RxAddrP5 => self.address_fault(Pipe::P5),
             Register::TxAddr => self.tx_addr_fault(),
-            _ => Pipe::all().into_iter().any(|pipe| {
-                register == pipe.address_register() && self.address_fault(pipe)
-                    || register == pipe.width_register() && self.width_fault(pipe)
-            }),
+            Register::RxPwP0 => self.width_fault(Pipe::P0),
+            Register::RxPwP1 => self.width_fault(Pipe::P1),
+            Register::RxPwP2 => self.width_fault(Pipe::P2),
+            Register::RxPwP3 => self.width_fault(Pipe::P3),
+            Register::RxPwP4 => self.width_fault(Pipe::P4),
+            Register::RxPwP5 => self.width_fault(Pipe::P5),
+            _ => false,
         }
     }
 
@@ -125,8 +133,9 @@ impl Bench {
         ensures { result ≡ fault_of width self.now.registers }
     {
         Register::all()
-            .into_iter()
-            .find(|register| self.is_faulty(*register, width))
+            .iter()
+            .find(|register| self.is_faulty(**register, width))
+            .copied()
     }
 }
 
