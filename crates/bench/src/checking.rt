@@ -17,7 +17,7 @@ fn is_alike(a: &[u8], b: &[u8], width: usize) -> bool
     a[..width] == b[..width]
 }
 
-// The faults of single registers.
+// The faults of single registers. Arrays are read by `iter`: their `into_iter` marks each item as it is taken out.
 impl Bench {
     // CONFIG, for a check of so many bits.
     fn config_fault(&self, width: usize) -> bool
@@ -69,13 +69,12 @@ impl Bench {
             )
     }
 
-    // Whether a lower enabled pipe has the address in use of the pipe. By `iter`, since a part of an array is a slice, which lends.
+    // Whether a lower enabled pipe has the address in use of the pipe. It goes over all six, a number that the compiler knows and
+    // writes out; over a part of the array it would take twice the instructions.
     fn is_taken(&self, pipe: Pipe) -> bool
         ensures { result ≡ some_pipe (lower pipe) (same_address self.now.registers pipe) }
     {
-        Pipe::all()[..usize::from(pipe.index())]
-            .iter()
-            .any(|low| self.has_address_of(pipe, *low))
+        Pipe::all().iter().any(|low| low.index() < pipe.index() && self.has_address_of(pipe, *low))
     }
 
     fn address_fault(&self, pipe: Pipe) -> bool
