@@ -18,7 +18,8 @@ fn padded(front: &[u8]) -> Value
 }
 
 impl Registers {
-    // Every register at its reset value; the host may write that value to each register that it writes and reads back.
+    // Every register at its reset value; the host may write that value to each register that it writes and reads back. By
+    // `from_fn`, which the compiler works out beforehand; `map` of an array is done anew at each call.
     pub fn reset() -> Registers
         ensures value { result ≡ at_reset }
         ensures allowed { StartsAllowed result }
