@@ -1,4 +1,3 @@
 pub mod Items
 pub mod Loads
 pub mod Lowest
-pub mod Pipes

@@ -17,7 +17,7 @@ fn is_alike(a: &[u8], b: &[u8], width: usize) -> bool
     a[..width] == b[..width]
 }
 
-// The faults of single registers.
+// The faults of single registers. Arrays are read by `iter`: their `into_iter` marks each item as it is taken out.
 impl Bench {
     // CONFIG, for a check of so many bits.
     fn config_fault(&self, width: usize) -> bool
@@ -39,7 +39,7 @@ impl Bench {
         ensures { result ≡ en_aa_fault self.now.registers }
     {
         if self.registers.is_receiver() {
-            Pipe::all().into_iter().any(|pipe| self.is_unanswered(pipe))
+            Pipe::all().iter().any(|pipe| self.is_unanswered(*pipe))
         } else {
             self.is_unanswered(Pipe::P0)
         }
@@ -50,8 +50,8 @@ impl Bench {
     {
         if self.registers.is_receiver() {
             !Pipe::all()
-                .into_iter()
-                .any(|pipe| self.registers.is_enabled(pipe))
+                .iter()
+                .any(|pipe| self.registers.is_enabled(*pipe))
         } else {
             !self.registers.is_enabled(Pipe::P0)
         }
@@ -69,13 +69,12 @@ impl Bench {
             )
     }
 
-    // Whether a lower enabled pipe has the address in use of the pipe. By `iter`, since a part of an array is a slice, which lends.
+    // Whether a lower enabled pipe has the address in use of the pipe. It goes over all six, a number that the compiler knows and
+    // writes out; over a part of the array it would take twice the instructions.
     fn is_taken(&self, pipe: Pipe) -> bool
         ensures { result ≡ some_pipe (lower pipe) (same_address self.now.registers pipe) }
     {
-        Pipe::all()[..usize::from(pipe.index())]
-            .iter()
-            .any(|low| self.has_address_of(pipe, *low))
+        Pipe::all().iter().any(|low| low.index() < pipe.index() && self.has_address_of(pipe, *low))
     }
 
     fn address_fault(&self, pipe: Pipe) -> bool
@@ -112,11 +111,19 @@ impl Bench {
             Register::Config => self.config_fault(width),
             Register::EnAa => self.en_aa_fault(),
             Register::EnRxaddr => self.en_rxaddr_fault(),
+            Register::RxAddrP1 => self.address_fault(Pipe::P1),
+            Register::RxAddrP2 => self.address_fault(Pipe::P2),
+            Register::RxAddrP3 => self.address_fault(Pipe::P3),
+            Register::RxAddrP4 => self.address_fault(Pipe::P4),
+            Register::RxAddrP5 => self.address_fault(Pipe::P5),
             Register::TxAddr => self.tx_addr_fault(),
-            _ => Pipe::all().into_iter().any(|pipe| {
-                register == pipe.address_register() && self.address_fault(pipe)
-                    || register == pipe.width_register() && self.width_fault(pipe)
-            }),
+            Register::RxPwP0 => self.width_fault(Pipe::P0),
+            Register::RxPwP1 => self.width_fault(Pipe::P1),
+            Register::RxPwP2 => self.width_fault(Pipe::P2),
+            Register::RxPwP3 => self.width_fault(Pipe::P3),
+            Register::RxPwP4 => self.width_fault(Pipe::P4),
+            Register::RxPwP5 => self.width_fault(Pipe::P5),
+            _ => false,
         }
     }
 
@@ -125,8 +132,9 @@ impl Bench {
         ensures { result ≡ fault_of width self.now.registers }
     {
         Register::all()
-            .into_iter()
-            .find(|register| self.is_faulty(*register, width))
+            .iter()
+            .find(|register| self.is_faulty(**register, width))
+            .copied()
     }
 }
 

@@ -4,10 +4,11 @@ ghost use Rattle.registers.specs.File.{padded, value_of, byte_of, written, place
 
 use crate::held::{Registers, Value};
 use crate::register::Register;
+use std::array;
 
 // The bytes as a value, with 0 behind them. `frames` pads to sizes of its own; to share it, one of the two crates would have to
 // stand on the other.
-pub(crate) fn padded(front: &[u8]) -> Value
+fn padded(front: &[u8]) -> Value
     requires { length front.now ≤ 5 }
     ensures { result ≡ padded front.now }
 {
@@ -17,13 +18,15 @@ pub(crate) fn padded(front: &[u8]) -> Value
 }
 
 impl Registers {
-    // Every register at its reset value; the host may write that value to each register that it writes and reads back.
+    // Every register at its reset value; the host may write that value to each register that it writes and reads back. By
+    // `from_fn`, which the compiler works out beforehand; `map` of an array is done anew at each call.
     pub fn reset() -> Registers
         ensures value { result ≡ at_reset }
         ensures allowed { StartsAllowed result }
     {
+        let registers = Register::all();
         Registers {
-            held: Register::all().map(Register::reset_value),
+            held: array::from_fn(|address| registers[address].reset_value()),
         }
     }
 

@@ -4,7 +4,6 @@ ghost use Rattle.registers.specs.File.{initial};
 ghost use Rattle.registers.specs.Table.{name_of, size_of, takes, is_read_only, entry_at, table};
 ghost use Rattle.registers.specs.Rows.{permits, agree, Tells};
 
-use crate::file::padded;
 use crate::held::Value;
 use crate::register::{NoSuchRegister, Register};
 use crate::row::{Allowed, Row};
@@ -257,7 +256,13 @@ impl Register {
     pub(crate) fn reset_value(self) -> Value
         ensures { result ≡ initial (entry_at (address_of self)) }
     {
-        padded(&[self.row().reset; 5][..self.size()])
+        let Row { size, reset, .. } = self.row();
+        let bytes = if size == 1 {
+            [reset, 0, 0, 0, 0]
+        } else {
+            [reset; 5]
+        };
+        Value { bytes }
     }
 }
 

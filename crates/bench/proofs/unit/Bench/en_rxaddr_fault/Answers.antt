@@ -1,15 +1,15 @@
 use Rattle.std.proofs.Common.{not, sym, ap, ◌∙◌, rules, tests}
 use Rattle.std.proofs.lemmas.Bool.{cond-true}
+use Rattle.std.proofs.lemmas.Iterator.{YieldsList-from_slice}
 use Rattle.std.proofs.lemmas.Iterator.Search.{any_from_yields_List}
 use Rattle.registers.specs.Pipes.{pipes}
 use Rattle.registers.specs.declared.pipe.Pipe.TheVariants.{P0}
 use Rattle.bench.specs.Checking.{is_receiver, enabled, some_pipe}
-use Rattle.bench.proofs.Items.{from_array}
 use Rattle.bench.proofs.unit.Bench.en_rxaddr_fault.Goals as goal
 
 pub returns-then-is_receiver : goal.returns-then-is_receiver
 returns-then-is_receiver c =
     let f = c.args.self.now.registers in
     ap not
-    (any_from_yields_List (enabled f) _ _ _ c.any.ensures.ran (from_array pipes cc) (λ x b q k. search (rules, tests))
+    (any_from_yields_List (enabled f) _ _ _ c.any.ensures.ran (YieldsList-from_slice pipes cc) (λ x b q k. search (rules, tests))
     ∙ sym (cond-true (is_receiver f) (some_pipe pipes (enabled f)) (enabled f P0) (sym c.if-is_receiver.ensures)))

@@ -17,10 +17,10 @@ all_reset held l each =
 
 pub returns-clause-value : goal.returns-clause-value
 returns-clause-value c =
-    let each : (k : ℕ) → k < 24 → get_or c.map.result k (record { bytes = [] }) ≡ initial (entry_at k) =
+    let each : (k : ℕ) → k < 24 → get_or c.from_fn.result k (record { bytes = [] }) ≡ initial (entry_at k) =
     λ k h.
-    let called = (c.map.ensures.items.at k Config (record { bytes = [] }) h).2 in
-    let e : address_of (get_or c.all.result k Config) ≡ k = rw c.all.ensures (listed k h) in
-    let v : get_or c.map.result k (record { bytes = [] }) ≡ initial (entry_at (address_of (get_or c.all.result k Config))) = search rules in
+    let called = (c.from_fn.ensures.items.at k (record { bytes = [] }) h).2 in
+    let e : address_of (get_or c.all-registers.result k Config) ≡ k = rw c.all-registers.ensures (listed k h) in
+    let v : get_or c.from_fn.result k (record { bytes = [] }) ≡ initial (entry_at (address_of (get_or c.all-registers.result k Config))) = search rules in
     rw e at v in
-    all_reset c.map.result c.map.ensures.items.long each
+    all_reset c.from_fn.result c.from_fn.ensures.items.long each
