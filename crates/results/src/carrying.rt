@@ -94,7 +94,7 @@ fn done_with(units: &mut Units, heap: Global, line: &Line) -> Result<Answer, Sto
             };
             Ok(Answer::Read(reading.heard()))
         }
-        Line::Field { register, profile } => { Ok(Answer::Field(field(profile, *register))) }
+        Line::Field { register, profile } => Ok(Answer::Field(field(profile, *register))),
         Line::Unit { label, line } => {
             let unit = label.place;
             let result = units
