@@ -1,3 +1,4 @@
+pub mod Field
 pub mod Outcomes
 pub mod Texts
 pub mod Rows

@@ -21,6 +21,7 @@ use Rattle.desk.specs.declared.answer.Frame.{Frame}
 use Rattle.desk.specs.Answers.{Said, said_of, refused as unit_refused}
 use Rattle.desk.specs.Boxed.{frame_of}
 use Rattle.desk.specs.Desks.{kind_of, no_units, units_after, units_said, units_called, units_answer, units_made, units_make_said, units_carried, units_carry_said, KeptUnlessDone}
+use Rattle.results.specs.Field.{field_bytes}
 
 abbrev pub check_width : Kind → ℕ
 check_width Crc8 = 8
@@ -53,7 +54,7 @@ outcome_of (answer.Frame x) = frame x
 outcome_of (answer.Read (Ok (Some h))) = heard (packet_of h.fields)
 outcome_of (answer.Read (Ok None)) = nothing
 outcome_of (answer.Read (Err e)) = refused (refusal_number e)
-outcome_of (answer.Field (Ok (Some bytes))) = looked_up bytes.now
+outcome_of (answer.Field (Ok (Some f))) = looked_up (field_bytes f)
 outcome_of (answer.Field (Ok None)) = absent
 outcome_of (answer.Field (Err e)) = said (unit_refused e)
 outcome_of (answer.Unit r) = said (said_of r)

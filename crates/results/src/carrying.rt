@@ -3,24 +3,26 @@ ghost use Rattle.std.specs.Prelude.{◌≡◌};
 ghost use Rattle.frames.specs.Calls.{width_of, packet_of, Packed, Reads};
 ghost use Rattle.requests.specs.Lines.{asked, make, Gives};
 ghost use Rattle.desk.specs.Making.{IfSettled};
+ghost use Rattle.results.specs.declared.carrying.Answer.TheVariants.{Field};
 ghost use Rattle.results.specs.Outcomes.{check_width, check_meaning, outcome_of, pack_outcome, read_outcome, field_outcome, carried, units_after_request, Kept, IfUnsettled};
 
+use crate::field::FieldBytes;
 use checks::{Crc8, Crc16};
 use desk::{Frame, UnitResult, Units};
 use frames::{AddressWidth, Fields, Heard, pack, read};
 use requests::{Cannot, Kind, Line, Stop};
 use std::alloc::Global;
 
-// What carrying out a line gives. What a profile has for a register is a part of the line.
+// What carrying out a line gives.
 #[derive(Drop)]
-pub enum Answer<'a> {
+pub enum Answer {
     Done,
     // a frame that was packed
     Frame(Frame),
     // what a reader finds, if it finds a packet
     Read(Result<Option<Heard>, frames::Refusal>),
     // what a profile has for a register, if it has anything
-    Field(Result<Option<&'a [u8]>, commands::Refusal>),
+    Field(Result<Option<FieldBytes>, commands::Refusal>),
     Unit(UnitResult),
 }
 
@@ -56,7 +58,7 @@ impl Reading<'_> {
 }
 
 // The buffer has room for the longest frame, so packing is not refused.
-fn packed<'a>(kind: Kind, fields: &Fields) -> Answer<'a>
+fn packed(kind: Kind, fields: &Fields) -> Answer
     ensures { outcome_of result ≡ pack_outcome kind (packet_of fields.now) }
 {
     let mut buffer = [0; 42];
@@ -64,8 +66,15 @@ fn packed<'a>(kind: Kind, fields: &Fields) -> Answer<'a>
     Answer::Frame(Frame { bits, buffer })
 }
 
+// What a profile has for a register. A field has at most five bytes, so all of it is kept.
+fn field(profile: &[u8], register: u8) -> Result<Option<FieldBytes>, commands::Refusal>
+    ensures { outcome_of (Field result) ≡ field_outcome register profile.now }
+{
+    Ok(profile::field(profile, register)?.map(FieldBytes::new))
+}
+
 // Apart from `carry_out`, so that what stays as it was follows from one promise and not once for each line.
-fn done_with<'a>(units: &mut Units, heap: Global, line: &'a Line) -> Result<Answer<'a>, Stop>
+fn done_with(units: &mut Units, heap: Global, line: &Line) -> Result<Answer, Stop>
     ensures answer { Gives outcome_of result (carried units.old (asked line.now)) }
     ensures units { IfSettled result (units.new ≡ units_after_request units.old (asked line.now)) }
     ensures memory { IfUnsettled result (asked line.now ≡ make) }
@@ -85,9 +94,7 @@ fn done_with<'a>(units: &mut Units, heap: Global, line: &'a Line) -> Result<Answ
             };
             Ok(Answer::Read(reading.heard()))
         }
-        Line::Field { register, profile } => {
-            Ok(Answer::Field(profile::field(profile, *register)))
-        }
+        Line::Field { register, profile } => Ok(Answer::Field(field(profile, *register))),
         Line::Unit { label, line } => {
             let unit = label.place;
             let result = units
@@ -113,7 +120,7 @@ fn done_with<'a>(units: &mut Units, heap: Global, line: &'a Line) -> Result<Answ
 
 // Carries out a line on the units and the cell, with the check in force; or says why it cannot be carried out. Only a line that makes
 // a cell needs memory.
-pub fn carry_out<'a>(units: &mut Units, heap: Global, line: &'a Line) -> Result<Answer<'a>, Stop>
+pub fn carry_out(units: &mut Units, heap: Global, line: &Line) -> Result<Answer, Stop>
     ensures answer { Gives outcome_of result (carried units.old (asked line.now)) }
     ensures units { IfSettled result (units.new ≡ units_after_request units.old (asked line.now)) }
     ensures memory { IfUnsettled result (asked line.now ≡ make) }

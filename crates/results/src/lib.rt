@@ -2,8 +2,10 @@
 #![tactic(auto)]
 
 mod carrying;
+mod field;
 mod rows;
 mod texts;
 
 pub use carrying::{Answer, Reading, carry_out};
+pub use field::FieldBytes;
 pub use texts::Unable;

@@ -31,7 +31,7 @@ impl fmt::Display for Packet<'_> {
     }
 }
 
-impl fmt::Display for Answer<'_> {
+impl fmt::Display for Answer {
     ghost output = { λ a. Some (result_text (outcome_of a)) };
 
     fn fmt<W: fmt::Write>(&self, f: &mut fmt::Formatter<W>) -> fmt::Result {
@@ -41,7 +41,7 @@ impl fmt::Display for Answer<'_> {
             Answer::Read(Ok(Some(heard))) => write!(f, "{}", Packet(&heard.fields)),
             Answer::Read(Ok(None)) => f.write_str("ok nothing"),
             Answer::Read(Err(refusal)) => write!(f, "refused {} ({refusal})", refusal.number()),
-            Answer::Field(Ok(Some(bytes))) => write!(f, "ok{}", Apart(bytes)),
+            Answer::Field(Ok(Some(field))) => write!(f, "ok{}", Apart(field.bytes())),
             Answer::Field(Ok(None)) => f.write_str("ok absent"),
             Answer::Field(Err(refusal)) => write!(f, "{}", Refused(*refusal)),
             Answer::Unit(result) => write!(f, "{}", Said(result)),

@@ -20,7 +20,7 @@ use words::words;
 struct Explained<'a> {
     kind: Kind,
     line: &'a Line,
-    answer: &'a Answer<'a>,
+    answer: &'a Answer,
 }
 
 impl fmt::Display for Explained<'_> {
