@@ -6,7 +6,7 @@ ghost use Rattle.std.specs.Prelude.{◌≤◌};
 #[derive(Clone, Copy, Debug)]
 pub struct FieldBytes {
     held: [u8; 5],
-    len: u8,
+    len: usize,
     ghost fits: { len ≤ 5 },
 }
 
@@ -21,16 +21,13 @@ impl FieldBytes {
         let len = field.len();
         let mut held = [0; 5];
         held[0..len].copy_from_slice(field);
-        FieldBytes {
-            held,
-            len: len as u8,
-        }
+        FieldBytes { held, len }
     }
 
     pub fn bytes(&self) -> &[u8]
         ensures { result.now ≡ field_bytes self.now }
     {
-        &self.held[0..usize::from(self.len)]
+        &self.held[0..self.len]
     }
 }
 
