@@ -3,6 +3,9 @@
 
 #[cfg(test)]
 mod tests {
+    use desk::Units;
+    use requests::{Kind, Line, Stop};
+    use results::{Answer, carry_out};
     use script::{Console, Halt, feed};
     use std::alloc::Global;
     use std::io;
@@ -17,6 +20,24 @@ mod tests {
         assert!(rt; out.as_slice() == expected);
         let (_, failed) = console.tally();
         assert_eq!(rt; failed, unable);
+    }
+
+    // The line is gone when the answer comes: an answer owns what it says.
+    fn answered(units: &mut Units, heap: Global, line: Line) -> Result<Answer, Stop> {
+        carry_out(units, heap, &line)
+    }
+
+    #[test]
+    fn answer_outlives_its_line(rt: HostRuntime) {
+        let heap = rt.alloc();
+        let mut units = Units::new(Kind::Crc16);
+        let mut profile: Vec<u8> = Vec::new(heap);
+        let sound = profile.extend_from_slice(&[0x00, 0x00, 0x00, 0x30, 0x2F, 0x4C]);
+        assert!(&rt; sound.is_ok());
+        let register = 0x05;
+        let answer = answered(&mut units, heap, Line::Field { register, profile });
+        let text = answer.map(|answer| format!(in heap; "{answer}"));
+        assert!(&rt; matches!(&text, Ok(Ok(text)) if text.as_str() == "ok 4C"));
     }
 
     #[test]
