@@ -142,7 +142,9 @@ impl Units {
         }
     }
 
-    // Does what a line asks of the unit under a label, or says what the unit lacks.
+    // Does what a line asks of the unit under a label, or says what the unit lacks. This and the next are never inlined: a large answer
+    // would be copied once for each arm that it comes from.
+    #[inline(never)]
     pub fn carry_out(&mut self, label: Label, line: &UnitLine) -> Result<UnitResult, Lack>
         ensures after { self.new ≡ units_after self.old label.place (asked_of line.now) }
         ensures answer { Says result (units_said self.old label.place (asked_of line.now)) }
@@ -153,6 +155,7 @@ impl Units {
     }
 
     // The same of a line that names the unit by its number.
+    #[inline(never)]
     pub fn call(&mut self, unit: u8, call: &UnitCall) -> Result<UnitResult, Lack>
         ensures after { self.new ≡ units_called self.old unit (called call.now) }
         ensures answer { Says result (units_answer self.old unit (called call.now)) }
