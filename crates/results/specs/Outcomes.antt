@@ -1,9 +1,9 @@
 -- What carrying out a line gives.
-use Rattle.std.specs.Prelude.{◌≡◌, ℕ, ◌*◌, Bool, cond, List, length, take, Some, None, Ok, Err, Option, Result, nat_le}
+use Rattle.std.specs.Prelude.{◌≡◌, ℕ, ◌*◌, Bool, true, false, cond, List, length, take, Some, None, Ok, Err, Option, Result, nat_le}
 use Rattle.checks.specs.Bits.{bits}
 use Rattle.checks.specs.Crc.{crc8, crc16}
 use Rattle.frames.specs.Packet.{Packet, frame_bits, reading}
-use Rattle.frames.specs.Calls.{packet_of, refusal_number}
+use Rattle.frames.specs.Calls.{packet_of, refusal_number, Checked}
 use Rattle.requests.specs.declared.lines.Kind.{Kind}
 use Rattle.requests.specs.declared.lines.Kind.TheVariants.{Crc8, Crc16}
 use Rattle.results.specs.declared.carrying.Answer.{Answer}
@@ -58,6 +58,33 @@ outcome_of (answer.Field (Ok (Some f))) = looked_up (field_bytes f)
 outcome_of (answer.Field (Ok None)) = absent
 outcome_of (answer.Field (Err e)) = said (unit_refused e)
 outcome_of (answer.Unit r) = said (said_of r)
+
+-- with a packet comes the check that was heard, and its payload is 0 behind its bytes
+abbrev pub CheckHeard : Kind → Answer → Type 0
+CheckHeard k answer.Done = Unit {0}
+CheckHeard k (answer.Frame x) = Unit {0}
+CheckHeard k (answer.Read (Ok h)) = Checked (check_meaning k) h
+CheckHeard k (answer.Read (Err e)) = Unit {0}
+CheckHeard k (answer.Field r) = Unit {0}
+CheckHeard k (answer.Unit r) = Unit {0}
+
+-- whether it is what a profile has, also where the profile is refused
+abbrev pub of_profile : Answer → Bool
+of_profile answer.Done = false
+of_profile (answer.Frame x) = false
+of_profile (answer.Read r) = false
+of_profile (answer.Field r) = true
+of_profile (answer.Unit r) = false
+
+abbrev pub asks_profile : Request → Bool
+asks_profile (kind named) = false
+asks_profile (pack p) = false
+asks_profile (read width n bytes) = false
+asks_profile (field r p) = true
+asks_profile (unit label q) = false
+asks_profile (call u c) = false
+asks_profile make = false
+asks_profile (carry fate start pattern) = false
 
 abbrev pub pack_outcome : Kind → Packet → Outcome
 pack_outcome k p = frame (frame_of (frame_bits (check_width k) (check_meaning k) p))

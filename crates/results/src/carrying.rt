@@ -1,10 +1,11 @@
 // Lines carried out.
-ghost use Rattle.std.specs.Prelude.{◌≡◌};
+ghost use Rattle.std.specs.Prelude.{◌≡◌, IfOk};
 ghost use Rattle.frames.specs.Calls.{width_of, packet_of, Packed, Reads};
 ghost use Rattle.requests.specs.Lines.{asked, make, Gives};
 ghost use Rattle.desk.specs.Making.{IfSettled};
+ghost use Rattle.desk.specs.Desks.{kind_of};
 ghost use Rattle.results.specs.declared.carrying.Answer.TheVariants.{Field};
-ghost use Rattle.results.specs.Outcomes.{check_width, check_meaning, outcome_of, pack_outcome, read_outcome, field_outcome, carried, units_after_request, Kept, IfUnsettled};
+ghost use Rattle.results.specs.Outcomes.{check_width, check_meaning, outcome_of, CheckHeard, of_profile, asks_profile, pack_outcome, read_outcome, field_outcome, carried, units_after_request, Kept, IfUnsettled};
 
 use crate::field::FieldBytes;
 use checks::{Crc8, Crc16};
@@ -78,6 +79,8 @@ fn done_with(units: &mut Units, heap: Global, line: &Line) -> Result<Answer, Sto
     ensures answer { Gives outcome_of result (carried units.old (asked line.now)) }
     ensures units { IfSettled result (units.new ≡ units_after_request units.old (asked line.now)) }
     ensures memory { IfUnsettled result (asked line.now ≡ make) }
+    ensures heard { IfOk result (λ a. CheckHeard (kind_of units.old) a) }
+    ensures profile { IfOk result (λ a. of_profile a ≡ asks_profile (asked line.now)) }
 {
     match line {
         Line::Kind(kind) => {
@@ -124,6 +127,8 @@ pub fn carry_out(units: &mut Units, heap: Global, line: &Line) -> Result<Answer,
     ensures answer { Gives outcome_of result (carried units.old (asked line.now)) }
     ensures units { IfSettled result (units.new ≡ units_after_request units.old (asked line.now)) }
     ensures memory { IfUnsettled result (asked line.now ≡ make) }
+    ensures heard { IfOk result (λ a. CheckHeard (kind_of units.old) a) }
+    ensures profile { IfOk result (λ a. of_profile a ≡ asks_profile (asked line.now)) }
     ensures kept { IfSettled result (Kept (carried units.old (asked line.now)) units.old units.new) }
 {
     done_with(units, heap, line)

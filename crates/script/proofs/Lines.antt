@@ -5,7 +5,7 @@ use Rattle.std.specs.Io.KnownBytes.{Appends, IsAtEnd}
 use Rattle.std.proofs.KnownBytes.{Appends-nil, Appends-trans}
 use Rattle.words.specs.Split.{words_of}
 use Rattle.script.specs.declared.running.Console.{Console}
-use Rattle.script.specs.Console.{printed, after}
+use Rattle.script.specs.Console.{SameTally, printed, after}
 use Rattle.script.specs.Feeding.{onto_first, lines_of, after_lines, printed_lines, AreLines, AreFirstLines, Takes, TakesAndCuts}
 
 -- ---- lines
@@ -83,3 +83,6 @@ Cuts-at ls line text front rest old mid new a b c took step says split grown = (
   step ∙ ap (λ (k : Console). after k (words_of line)) took.0 ∙ sym (after_lines-append old ls line),
   (front, rest, ap (λ (k : Console). printed k (words_of line)) (sym took.0) ∙ sym says ∙ split, Appends-trans a b c _ _ took.1 grown),
 )
+
+pub SameTally-at : (new mid at : Console) → SameTally new mid → mid ≡ at → SameTally new at
+SameTally-at new mid at same is = subst (SameTally new) is same

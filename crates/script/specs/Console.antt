@@ -1,5 +1,5 @@
 -- The console: what a line leads to and what it prints.
-use Rattle.std.specs.Prelude.{ℕ, ◌+◌, ◌-◌, ◌^◌, min, cond, List, [], ◌++◌, length, Ok, Err, codes, Result, ◌==◌}
+use Rattle.std.specs.Prelude.{◌≡◌, ℕ, ◌+◌, ◌-◌, ◌^◌, min, cond, List, [], ◌++◌, length, Ok, Err, codes, Result, ◌==◌}
 use Rattle.words.specs.Numbers.{decimal_shown}
 use Rattle.requests.specs.declared.lines.Kind.{Kind}
 use Rattle.requests.specs.declared.lines.Kind.TheVariants.{Crc16}
@@ -62,6 +62,10 @@ line_text us (Err e) = cannot_text e ++ codes "\n"
 
 abbrev pub started : Console
 started = record { units = no_units Crc16; lines = 0; carried = 0; unable = 0 }
+
+-- as many lines were carried out, and as many could not be
+abbrev pub SameTally : Console → Console → Type 0
+SameTally a b = (a.carried ≡ b.carried) × (a.unable ≡ b.unable)
 
 abbrev pub counted : Console → Console
 counted c = record { units = c.units; lines = up c.lines; carried = c.carried; unable = c.unable }

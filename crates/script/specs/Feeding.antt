@@ -5,7 +5,7 @@ use Rattle.words.specs.Split.{words_of}
 use Rattle.script.specs.declared.feeding.Halt.{Halt}
 use Rattle.script.specs.declared.feeding.Halt.TheVariants.{Input, Output, Memory}
 use Rattle.script.specs.declared.running.Console.{Console}
-use Rattle.script.specs.Console.{printed, after}
+use Rattle.script.specs.Console.{SameTally, printed, after}
 
 -- a byte before the first line, or as a line of its own where there is none
 abbrev pub onto_first : ℕ → List (List ℕ) → List (List ℕ)
@@ -44,8 +44,10 @@ TakesAndCuts ls line old new before later = (new ≡ after_lines old (ls ++ line
     × ((front : List ℕ) × (rest : List ℕ) × (printed (after_lines old ls) (words_of line) ≡ front ++ rest) × Appends before later (printed_lines old ls ++ front))
 
 -- What stands where a run ends early. Where the input fails, or has more lines than can be counted, the first lines were taken. Where the
--- output fails, so was the line whose result could not be written. Where memory runs out, nothing is known of the console.
+-- output fails, so was the line whose result could not be written. Where memory runs out,
+-- the first lines were taken, and no other is counted.
 abbrev pub Stops : Halt → Option (List ℕ) → Console → Console → Option (List ℕ) → Option (List ℕ) → Type 0
 Stops (Input e) known old new before later = (ls : List (List ℕ)) × AreFirstLines known ls × Takes ls old new before later
 Stops (Output e) known old new before later = (ls : List (List ℕ)) × (line : List ℕ) × AreFirstLines known (ls ++ line ∷ []) × TakesAndCuts ls line old new before later
-Stops Memory known old new before later = (ls : List (List ℕ)) × AreFirstLines known ls × Appends before later (printed_lines old ls)
+Stops Memory known old new before later = (ls : List (List ℕ)) × AreFirstLines known ls
+    × Appends before later (printed_lines old ls) × SameTally new (after_lines old ls)

@@ -4,7 +4,7 @@ ghost use Rattle.words.specs.Split.{texts, words_of};
 ghost use Rattle.requests.specs.Lines.{asked, line_of};
 ghost use Rattle.results.specs.Outcomes.{outcome_of};
 ghost use Rattle.results.specs.Texts.{cannot_text};
-ghost use Rattle.script.specs.Console.{explained, answer_text, request_text, line_text, after_request, after_line, started, printed, after};
+ghost use Rattle.script.specs.Console.{SameTally, explained, answer_text, request_text, line_text, after_request, after_line, started, printed, after};
 
 use crate::summary::Summary;
 use answers::ProfileRows;
@@ -102,6 +102,7 @@ impl Console {
     fn refuse(&mut self, cannot: Cannot, out: &mut String) -> Result<(), AllocError>
         ensures state { OnOk result (self.new ≡ after_line self.old (Err cannot)) }
         ensures text { OnOk result (string_bytes out.new ≡ string_bytes out.old ++ (cannot_text cannot ++ codes "\n")) }
+        ensures tally { OnErr result (SameTally self.new self.old) }
     {
         writeln!(out, "{}", Unable(cannot))?;
         self.unable = self.unable.saturating_add(1);
@@ -111,6 +112,7 @@ impl Console {
     fn carry(&mut self, heap: Global, line: &Line, out: &mut String) -> Result<(), AllocError>
         ensures state { OnOk result (self.new ≡ after_request self.old (asked line.now)) }
         ensures text { OnOk result (string_bytes out.new ≡ string_bytes out.old ++ (request_text self.old.units (asked line.now))) }
+        ensures tally { OnErr result (SameTally self.new self.old) }
     {
         let kind = self.units.kind();
         match carry_out(&mut self.units, heap, line) {
@@ -130,6 +132,7 @@ impl Console {
     fn answer(&mut self, heap: Global, words: &[&[u8]], out: &mut String) -> Result<(), AllocError>
         ensures state { OnOk result (self.new ≡ after_line self.old (line_of (texts words.now))) }
         ensures text { OnOk result (string_bytes out.new ≡ string_bytes out.old ++ (line_text self.old.units (line_of (texts words.now)))) }
+        ensures tally { OnErr result (SameTally self.new self.old) }
     {
         match parse(heap, words) {
             Ok(line) => self.carry(heap, &line, out),
@@ -149,6 +152,7 @@ impl Console {
     ) -> Result<(), AllocError>
         ensures state { OnOk result (self.new ≡ after self.old (words_of line.now)) }
         ensures text { OnOk result (string_bytes text.new ≡ string_bytes text.old ++ printed self.old (words_of line.now)) }
+        ensures tally { OnErr result (SameTally self.new self.old) }
     {
         self.lines = self.lines.saturating_add(1);
         let words = words(heap, line)?;
@@ -166,9 +170,17 @@ impl Console {
         ensures state { OnOk result (self.new ≡ after self.old (words_of line.now)) }
         ensures text { OnOk result (out.new.items ≡ out.old.items ++ (printed self.old (words_of line.now))) }
         ensures kept { OnErr result (out.new.items ≡ out.old.items) }
+        ensures tally { OnErr result (SameTally self.new self.old) }
     {
+        let (carried, unable) = self.tally();
         let mut text = String::new(heap);
         self.print(heap, line, &mut text)?;
-        out.extend_from_slice(text.as_bytes())
+        let added = out.extend_from_slice(text.as_bytes());
+        if added.is_err() {
+            // nothing of it stands in the output, so it is not counted
+            self.carried = carried;
+            self.unable = unable;
+        }
+        added
     }
 }

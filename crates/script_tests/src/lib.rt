@@ -4,7 +4,7 @@
 #[cfg(test)]
 mod tests {
     use desk::Units;
-    use requests::{Kind, Line, Stop};
+    use requests::{Kind, Line, Stop, parse};
     use results::{Answer, carry_out};
     use script::{Console, Halt, feed};
     use std::alloc::Global;
@@ -38,6 +38,42 @@ mod tests {
         let answer = answered(&mut units, heap, Line::Field { register, profile });
         let text = answer.map(|answer| format!(in heap; "{answer}"));
         assert!(&rt; matches!(&text, Ok(Ok(text)) if text.as_str() == "ok 4C"));
+    }
+
+    // What a line of these words answers, with no units and the 16-bit check.
+    fn answer_to(heap: Global, words: &[&[u8]]) -> Result<Answer, Stop> {
+        let line = parse(heap, words)?;
+        answered(&mut Units::new(Kind::Crc16), heap, line)
+    }
+
+    // The check of this frame by long division is CE12.
+    #[test]
+    fn check_comes_with_a_packet(rt: HostRuntime) {
+        let frame: [&[u8]; 17] = [
+            b"read", b"5", b"105", b"AA", b"E7", b"04", b"03", b"02", b"01", b"11", b"6F", b"56",
+            b"DF", b"77", b"E7", b"09", b"00",
+        ];
+        let answer = answer_to(rt.alloc(), &frame);
+        assert!(&rt; matches!(&answer, Ok(Answer::Read(Ok(Some(heard)))) if heard.check == 0xCE12));
+    }
+
+    #[test]
+    fn refused_profile_is_a_field(rt: HostRuntime) {
+        let answer = answer_to(rt.alloc(), &[b"field", b"05", b"00"]);
+        assert!(&rt; matches!(&answer, Ok(Answer::Field(Err(_)))));
+    }
+
+    #[test]
+    fn taken_lines_are_added_and_counted(rt: HostRuntime) {
+        let heap = rt.alloc();
+        let mut console = Console::new();
+        let mut out: Vec<u8> = Vec::new(heap);
+        assert!(&rt; console.take(heap, b"kind crc8", &mut out).is_ok());
+        assert!(&rt; console.take(heap, b"", &mut out).is_ok());
+        assert!(&rt; console.take(heap, b"make x", &mut out).is_ok());
+        let results: &[u8] = b"1: ok\n3: cannot (too many words: make)\n";
+        assert!(&rt; out.as_slice() == results);
+        assert!(&rt; console.tally() == (1, 1));
     }
 
     #[test]

@@ -2,7 +2,7 @@ use Rattle.std.proofs.Common.{◌≡◌, [], ◌<◌, length, rules, arith}
 use Rattle.std.proofs.lemmas.Result.{err_from_is_err_and}
 use Rattle.words.specs.Split.{words_of}
 use Rattle.script.specs.Console.{printed}
-use Rattle.script.proofs.Lines.{Leaves-none, Leaves-more, AreLines-of_end, AreFirstLines-of_left, Takes-none, Takes-more, Cuts-at}
+use Rattle.script.proofs.Lines.{Leaves-none, Leaves-more, AreLines-of_end, AreFirstLines-of_left, Takes-none, Takes-more, Cuts-at, SameTally-at}
 use Rattle.script.proofs.feeding.feed_lines.Goals as goal
 
 pub loop-init : goal.loop-init
@@ -32,7 +32,7 @@ pub returns-in_err-print-clause-stopped : goal.returns-in_err-print-clause-stopp
 returns-in_err-print-clause-stopped g c =
     let (ls, leaves, took) = c.loop.invariant in
     let p = err_from_is_err_and c.from_residual.result c.from_residual.ensures.1 in
-    rw (p.1, p.2) (ls, AreFirstLines-of_left _ _ _ leaves, took.1)
+    rw (p.1, p.2) (ls, AreFirstLines-of_left _ _ _ leaves, took.1, SameTally-at c.print.new.self c.loop.console _ c.in_err-print.ensures.tally took.0)
 
 pub returns-in-Err-write_text-clause-stopped : goal.returns-in-Err-write_text-clause-stopped
 returns-in-Err-write_text-clause-stopped g c =
